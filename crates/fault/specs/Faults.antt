@@ -6,7 +6,7 @@ use Rattle.field.specs.declared.fault.FieldRefusal.{FieldRefusal}
 use Rattle.field.specs.declared.fault.FieldRefusal.the-variants.{Missing, BadName, BadNumber}
 use Rattle.grammar.specs.Numbers.{draft-number}
 use Rattle.grammar.specs.declared.refusal.Part.{Part}
-use Rattle.grammar.specs.declared.refusal.Part.the-variants.{Name, Kids, Left, Operator, FirstKid, SecondKid, Source}
+use Rattle.grammar.specs.declared.refusal.Part.the-variants.{Kids, Left, Operator, FirstKid, SecondKid, Source}
 use Rattle.grammar.specs.declared.refusal.DraftRefusal.{DraftRefusal}
 use Rattle.grammar.specs.declared.refusal.DraftRefusal.the-variants.{Repeated, Undeclared, Unfit, Full, OwnSource, Unpriced}
 use Rattle.fault.specs.declared.LineRefusal.{LineRefusal}
@@ -25,7 +25,6 @@ refusal-number (Draft e) = draft-number e
 
 -- where a part of a declaration or rule stands in its line
 abbrev pub part-field : Part → ℕ
-part-field Name = 2
 part-field Left = 2
 part-field Kids = 3
 part-field Operator = 3

@@ -93,7 +93,6 @@ fn field_of_part(part: Part) -> usize
     ensures { λ r. ⌜ r ≡ part-field part ⌝ }
 {
     match part {
-        Part::Name => 2,
         Part::Left => 2,
         Part::Kids => 3,
         Part::Operator => 3,

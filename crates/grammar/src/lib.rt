@@ -1,8 +1,8 @@
 // Grammars for tree-parsing instruction selection: a draft takes declarations and rules, and is sealed into a grammar.
-pub mod adding;
+mod adding;
 pub mod declarations;
 pub mod draft;
-pub mod finding;
+mod finding;
 pub mod grammar;
 pub mod parts;
 pub mod questions;

@@ -5,7 +5,6 @@ ghost use Rattle.grammar.specs.Numbers.{draft-number};
 // The part of a declaration or rule that a refusal is about.
 #[derive(Clone, Copy, Debug, PartialEq, Eq)]
 pub enum Part {
-    Name,
     Kids,
     Left,
     Operator,

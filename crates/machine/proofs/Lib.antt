@@ -1,2 +1,5 @@
 pub mod Taking
 pub mod Whole
+pub mod Checks
+pub mod Meaning
+pub mod Readings

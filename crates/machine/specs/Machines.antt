@@ -1,11 +1,15 @@
 -- What the reader of machine files answers.
+use mathlib.Core.Bool.{true}
 use mathlib.Core.Path.{_≡_}
+use Prim.Native.Nat.{_≤_}
+use lib.ListN.{length}
+use Rattle.std.specs.Results.{isOk}
 use Rattle.std.specs.declared.result.Result.{Result}
 use Rattle.std.specs.declared.result.Result.the-variants.{Ok, Err}
 use Rattle.cost.specs.Counts.{count-model}
-use Rattle.grammar.specs.Lists.{Sealed}
+use Rattle.grammar.specs.Lists.{Sealed, Text}
 use Rattle.grammar.specs.Meaning.{grammar-lists}
-use Rattle.machine.specs.Files.{MachineOf, bytes-machine, cycles-machine, pairs}
+use Rattle.machine.specs.Files.{MachineOf, bytes-machine, cycles-machine, pairs, longest-file, lines-of, first-of}
 use Rattle.fault.specs.declared.MachineFault.{MachineFault}
 use Rattle.machine.specs.declared.machine.Machine.{Machine}
 use Rattle.machine.specs.declared.machine.Machine.the-variants.{Bytes, Cycles}
@@ -30,3 +34,7 @@ Answers (Fault e) r = Err e ≡ r
 abbrev pub Reads : Result Machine ReadError → Result MachineOf MachineFault → Type 0
 Reads (Ok m) r = Ok (machine-view m) ≡ r
 Reads (Err e) r = Answers e r
+
+-- a file is within the limit, and its first line with content passes: only then memory is asked for
+abbrev pub Headed : Text → Type 0
+Headed xs = (length xs ≤ longest-file) × (isOk (first-of (lines-of xs)) ≡ true)

@@ -2,13 +2,13 @@
 ghost use mathlib.Core.Path.{_≡_};
 ghost use Rattle.std.specs.Results.{Cases};
 ghost use Rattle.std.specs.declared.result.Result.the-variants.{Ok, Err};
-ghost use Rattle.name.specs.Outcomes.{mapOk};
+ghost use Rattle.name.specs.Outcomes.{mapErr};
 ghost use Rattle.field.specs.Readers.{toCome, nextPlace};
 ghost use Rattle.grammar.specs.Drafting.{lists-after};
 ghost use Rattle.grammar.specs.Lists.{Priced};
 ghost use Rattle.grammar.specs.Meaning.{draft-lists};
 ghost use Rattle.entry.specs.EntryViews.{entry-view};
-ghost use Rattle.machine.specs.Files.{drafted, taken, all-taken, numbered};
+ghost use Rattle.machine.specs.Files.{drafted, taken, all-taken, numbered, in-line};
 use crate::lines::next_line;
 use entry::Entry;
 use entry::entry_of;
@@ -56,6 +56,23 @@ pub fn declare<C: Tariff>(draft: &mut Draft<C>, entry: Entry) -> Result<(), Draf
     Ok(())
 }
 
+// An outcome of a line, with the line's number in its fault.
+pub(crate) fn in_line<T: Drop>(
+    line: usize,
+    outcome: Result<T, LineFault>,
+) -> Result<T, MachineFault>
+    ensures { λ r. ⌜ r ≡ mapErr (in-line line) outcome ⌝ }
+{
+    match outcome {
+        Ok(value) => Ok(value),
+        Err(fault) => Err(MachineFault {
+            line,
+            field: fault.field,
+            refusal: fault.refusal,
+        }),
+    }
+}
+
 // Takes a line into a draft.
 pub fn take_line<C: Tariff>(draft: &mut Draft<C>, line: &[u8]) -> Result<(), LineFault>
     ensures outcome { λ r. ⌜ Cases r (λ _. taken (C·Cost .model) (C·Tariff .priced) (draft-lists (now (draft .entry))) (now (line .entry)) ≡ Ok (draft-lists (now (draft .exit)))) (λ e. taken (C·Cost .model) (C·Tariff .priced) (draft-lists (now (draft .entry))) (now (line .entry)) ≡ Err e) ⌝ }
@@ -76,13 +93,7 @@ pub fn take_lines<C: Tariff>(
     ensures priced { λ r. ⌜ (Priced (C·Cost .model) (draft-lists (now (draft .entry))) → Priced (C·Cost .model) (draft-lists (now (draft .exit)))) ⌝ }
 {
     while let Some(part) = next_line(lines) {
-        if let Err(fault) = take_line(draft, part.text) {
-            return Err(MachineFault {
-                line: part.place,
-                field: fault.field,
-                refusal: fault.refusal,
-            });
-        }
+        in_line(part.place, take_line(draft, part.text))?;
     }
     Ok(())
 }

@@ -10,7 +10,10 @@ ghost use Rattle.grammar.specs.Lists.{Sealed};
 ghost use Rattle.grammar.specs.Meaning.{grammar-lists};
 ghost use Rattle.entry.specs.EntryViews.{header-view};
 ghost use Rattle.machine.specs.Files.{numbered, all-taken, first-of, machine-in, machine-of};
-ghost use Rattle.machine.specs.Machines.{SealedIn, Answers, Reads};
+ghost use Rattle.machine.specs.Readings.{Reading};
+ghost use Rattle.machine.specs.declared.machine.ReadError.the-variants.{Memory};
+ghost use Rattle.machine.specs.Machines.{SealedIn, Answers, Reads, Headed};
+use crate::drafting::in_line;
 use crate::drafting::take_lines;
 use crate::lines::next_line;
 use crate::machine::Machine;
@@ -47,14 +50,7 @@ fn first_line(lines: &mut LineReader) -> Result<Header, MachineFault>
             refusal: Refusal::Line(LineRefusal::Unknown),
         });
     };
-    match header_of(part.text) {
-        Ok(header) => Ok(header),
-        Err(fault) => Err(MachineFault {
-            line: part.place,
-            field: fault.field,
-            refusal: fault.refusal,
-        }),
-    }
+    in_line(part.place, header_of(part.text))
 }
 
 // The grammar that the lines that are left declare.
@@ -88,7 +84,9 @@ fn read_in(heap: Global, header: Header, lines: &mut LineReader) -> Result<Machi
 // What a machine file says, or its first fault.
 pub fn read(heap: Global, text: &[u8]) -> Result<Machine, ReadError>
     ensures value { λ r. ⌜ Reads r (machine-of (now (text .entry))) ⌝ }
+    ensures memory { λ r. ⌜ (r ≡ Err Memory → Headed (now (text .entry))) ⌝ }
     ensures sealed { λ r. ⌜ made r SealedIn ⌝ }
+    ensures meaning { λ _. ⌜ Reading (now (text .entry)) ⌝ }
 {
     if text.len() > LONGEST_FILE {
         return Err(ReadError::Fault(MachineFault {
