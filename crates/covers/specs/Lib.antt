@@ -1,0 +1,11 @@
+pub mod Trees
+pub mod Ranks
+pub mod Covers
+pub mod Rows
+pub mod Steps
+pub mod Nodes
+pub mod Held
+pub mod Rounds
+pub mod Weights
+pub mod Theorems
+pub mod Example
