@@ -66,6 +66,7 @@ module _ {C : Type 0} {m : Model C} (l : Laws m) where
           let a = eqb-true (x .0) (y .0) (k .0) in
           let b = l .cmp-same (x .1) (y .1) (is-equal (m .cmp (x .1) (y .1)) (k .1)) in
           λ i. Some (a i, b i)
+
       from : Some x ≡ Some y → same-entry m (Some x) (Some y) ≡ true
       from e =
           let s = some-is x y e in

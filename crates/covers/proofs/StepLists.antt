@@ -175,9 +175,9 @@ module _ {C : Type 0} {m : Model C} (l : Laws m) {G : Lists C} (sealed : Sealed 
       record {
         cheap = cheap-append m G xs own (kid .cheap) (w, linked);
         is = run-sum rs n (h .0) p (q + 1) (m .sum (rule-cost m G r) (cover-cost m G k)) (h .2 .linked) (omega arith) (omega arith)
-          ∙ turn (rule-cost m G r) (cover-cost m G k) (sum-all m G ys) (omega arith)
-          ∙ ap (λ z. m .sum z (sum-all m G own)) (kid .is)
-          ∙ sym (sum-all-append xs own (kid .cheap) (w, linked) (omega arith));
+            ∙ turn (rule-cost m G r) (cover-cost m G k) (sum-all m G ys) (omega arith)
+            ∙ ap (λ z. m .sum z (sum-all m G own)) (kid .is)
+            ∙ sym (sum-all-append xs own (kid .cheap) (w, linked) (omega arith));
       }
   sums (node1 op p t) (cover2 rs r k j) n i s h = absurd h
   sums (node2 op p t u) (cover0 rs r) n i s h = absurd h
@@ -210,10 +210,10 @@ module _ {C : Type 0} {m : Model C} (l : Laws m) {G : Lists C} (sealed : Sealed 
       record {
         cheap = cheap-append m G xs (zs ++ own) (kid .cheap) rest;
         is = run-sum rs n (h .0) p (q + step-count j + 1) (m .sum (m .sum (rule-cost m G r) (cover-cost m G k)) (cover-cost m G j)) (h .3 .linked) (omega arith) (omega arith)
-          ∙ ap (λ z. m .sum z (sum-all m G ys)) (turn (rule-cost m G r) (cover-cost m G k) (cover-cost m G j) (omega arith))
-          ∙ l .sum-group (cover-cost m G k) (m .sum (rule-cost m G r) (cover-cost m G j)) (sum-all m G ys) (omega arith)
-          ∙ (λ z. m .sum (kid .is z) (tail z))
-          ∙ sym (sum-all-append xs (zs ++ own) (kid .cheap) rest (omega arith));
+            ∙ ap (λ z. m .sum z (sum-all m G ys)) (turn (rule-cost m G r) (cover-cost m G k) (cover-cost m G j) (omega arith))
+            ∙ l .sum-group (cover-cost m G k) (m .sum (rule-cost m G r) (cover-cost m G j)) (sum-all m G ys) (omega arith)
+            ∙ (λ z. m .sum (kid .is z) (tail z))
+            ∙ sym (sum-all-append xs (zs ++ own) (kid .cheap) rest (omega arith));
       }
 
   pub steps-total : (t : Tree) (k : Cover) (n : ℕ) → size t ≤ 2048 → Covers G k t n → total m G (steps t k) ≡ cover-cost m G k

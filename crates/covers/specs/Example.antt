@@ -77,15 +77,15 @@ machine f = record {
   operators = operator name-CNST 0 ∷ operator name-REG 0 ∷ operator name-ADD 2 ∷ operator name-LOAD 1 ∷ [];
   nonterminals = name-reg ∷ name-imm ∷ name-addr ∷ [];
   rules =
-    rule-of 1 (base0 0) (f 0 0) name-const ∷
-    rule-of 0 (base0 1) (f 0 0) name-reg ∷
-    rule-of 0 (chain 1) (f 1 2) name-li ∷
-    rule-of 0 (base2 2 0 0) (f 1 2) name-add ∷
-    rule-of 0 (base2 2 0 1) (f 1 3) name-addi ∷
-    rule-of 2 (base2 2 0 1) (f 0 0) name-off ∷
-    rule-of 2 (chain 0) (f 0 0) name-ptr ∷
-    rule-of 0 (base1 3 2) (f 2 2) name-ld ∷
-    [];
+      rule-of 1 (base0 0) (f 0 0) name-const ∷
+      rule-of 0 (base0 1) (f 0 0) name-reg ∷
+      rule-of 0 (chain 1) (f 1 2) name-li ∷
+      rule-of 0 (base2 2 0 0) (f 1 2) name-add ∷
+      rule-of 0 (base2 2 0 1) (f 1 3) name-addi ∷
+      rule-of 2 (base2 2 0 1) (f 0 0) name-off ∷
+      rule-of 2 (chain 0) (f 0 0) name-ptr ∷
+      rule-of 0 (base1 3 2) (f 2 2) name-ld ∷
+      [];
 }
 
 -- costs in bytes, and in cycles before bytes

@@ -2,17 +2,17 @@
 ghost use mathlib.Core.Bool.{true, false};
 ghost use mathlib.Core.List.{map};
 ghost use mathlib.Core.Path.{_≡_};
-ghost use Prim.Native.Nat.{_+_, _≤_};
+ghost use Prim.Native.Nat.{_+_, _<_, _≤_};
 ghost use lib.ListN.{length};
 ghost use Rattle.std.specs.Of.Vec.{vec-items, vec-len};
 ghost use Rattle.std.specs.Vec.{made};
 ghost use Rattle.name.specs.Names.{text};
 ghost use Rattle.name.specs.Outcomes.{mapOk};
-ghost use Rattle.grammar.specs.Drafting.{empty, declare-operator, declare-nonterminal, own-source, unpriced, base-form, add-rule, add-base, add-chain, lists-after};
+ghost use Rattle.grammar.specs.Drafting.{empty, with-operator, with-nonterminal, with-rule, declare-operator, declare-nonterminal, own-source, unpriced, base-form, add-rule, add-base, add-chain, lists-after};
 ghost use Rattle.grammar.specs.Fits.{rule-fits};
 ghost use Rattle.grammar.specs.Lists.{Priced, Sealed};
 ghost use Rattle.grammar.specs.Meaning.{declared-lists, draft-lists, grammar-lists, operator-answer, nonterminal-answer, rule-answer, form-answer, nonterminal-found, kid-text};
-ghost use Rattle.grammar.specs.Views.{operator-of, rule-of, form-of};
+ghost use Rattle.grammar.specs.Views.{operator-of, nonterminal-of, rule-of, form-of};
 use crate::declarations::Declarations;
 use crate::grammar::Grammar;
 use crate::parts::Form;
@@ -33,6 +33,43 @@ use std::alloc::Global;
 #[derive(Drop)]
 pub struct Draft<C> {
     pub(crate) declarations: Declarations<C>,
+}
+
+// How declarations grow.
+impl<C: Copy> Declarations<C> {
+    fn new(heap: Global) -> Result<Declarations<C>, AllocError>
+        ensures { λ r. ⌜ made r (λ d. declared-lists d ≡ empty) ⌝ }
+    {
+        let operators = Vec::with_capacity(heap, 64)?;
+        let nonterminals = Vec::with_capacity(heap, 32)?;
+        let rules = Vec::with_capacity(heap, 256)?;
+        Ok(Declarations {
+            operators,
+            nonterminals,
+            rules,
+        })
+    }
+
+    fn push_operator(&mut self, operator: Operator)
+        requires { ⌜ vec-len (now self .operators) < 64 ⌝ ∗ ⌜ operator .kids ≤ 2 ⌝ }
+        ensures { λ _. ⌜ declared-lists (now (self .exit)) ≡ with-operator (declared-lists (now (self .entry))) (operator-of operator) ⌝ }
+    {
+        self.operators.push_reserved(operator);
+    }
+
+    fn push_nonterminal(&mut self, nonterminal: Nonterminal)
+        requires { ⌜ vec-len (now self .nonterminals) < 32 ⌝ }
+        ensures { λ _. ⌜ declared-lists (now (self .exit)) ≡ with-nonterminal (declared-lists (now (self .entry))) (nonterminal-of nonterminal) ⌝ }
+    {
+        self.nonterminals.push_reserved(nonterminal);
+    }
+
+    fn push_rule(&mut self, rule: Rule<C>)
+        requires { ⌜ vec-len (now self .rules) < 256 ⌝ ∗ ⌜ rule-fits (map operator-of (vec-items (now self .operators))) (vec-len (now self .nonterminals)) (rule-of rule) ≡ true ⌝ }
+        ensures { λ _. ⌜ declared-lists (now (self .exit)) ≡ with-rule (declared-lists (now (self .entry))) (rule-of rule) ⌝ }
+    {
+        self.rules.push_reserved(rule);
+    }
 }
 
 fn is_own_source(left: NonterminalNumber, form: Form) -> bool

@@ -1,5 +1,4 @@
 // Grammars for tree-parsing instruction selection: a draft takes declarations and rules, and is sealed into a grammar.
-mod adding;
 pub mod declarations;
 pub mod draft;
 mod finding;
