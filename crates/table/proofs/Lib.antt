@@ -1,0 +1,5 @@
+pub mod Places
+pub mod Meaning
+mod Buckets
+mod Chains
+mod Links
