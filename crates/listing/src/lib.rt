@@ -56,7 +56,7 @@ impl Line {
     }
 
     // The line of what has a number and a name.
-    fn numbered(heap: Global, kind: &[u8], number: u32, name: &[u8]) -> Result<Line, AllocError>
+    fn numbered(heap: Global, kind: &[u8], number: usize, name: &[u8]) -> Result<Line, AllocError>
         ensures { λ r. ⌜ made r (λ l. line-bytes l ≡ parted (now (kind .entry) ∷ decimal number ∷ now (name .entry) ∷ [])) ⌝ }
     {
         Line::new(heap, kind)?.number(number)?.word(name)
@@ -87,7 +87,7 @@ pub fn ended(mut bytes: Vec<u8>) -> Result<Vec<u8>, AllocError>
 }
 
 // An operator, with its count of kids.
-pub fn op_line(heap: Global, number: u32, name: &[u8], kids: u8) -> Result<Vec<u8>, AllocError>
+pub fn op_line(heap: Global, number: usize, name: &[u8], kids: u8) -> Result<Vec<u8>, AllocError>
     ensures { λ r. ⌜ made r (λ v. vec-items v ≡ op-line number (now (name .entry)) kids) ⌝ }
 {
     let line = Line::numbered(heap, b"op", number, name)?;
@@ -95,7 +95,7 @@ pub fn op_line(heap: Global, number: u32, name: &[u8], kids: u8) -> Result<Vec<u
 }
 
 // A nonterminal.
-pub fn nt_line(heap: Global, number: u32, name: &[u8]) -> Result<Vec<u8>, AllocError>
+pub fn nt_line(heap: Global, number: usize, name: &[u8]) -> Result<Vec<u8>, AllocError>
     ensures { λ r. ⌜ made r (λ v. vec-items v ≡ nt-line number (now (name .entry))) ⌝ }
 {
     Ok(Line::numbered(heap, b"nt", number, name)?.into_bytes())
@@ -114,7 +114,7 @@ fn kid_field(kid: Option<&[u8]>) -> &[u8]
 // The fields of a base rule but for its cost, with names in place of numbers.
 #[derive(Clone, Copy)]
 pub struct BaseFields<'a> {
-    pub number: u32,
+    pub number: usize,
     pub left: &'a [u8],
     pub op: &'a [u8],
     // The kids' nonterminals, as far as the operator has kids.
@@ -136,7 +136,7 @@ pub fn base_line(heap: Global, rule: BaseFields<'_>, cost: &[i32]) -> Result<Vec
 // The fields of a chain rule but for its cost, with names in place of numbers.
 #[derive(Clone, Copy)]
 pub struct ChainFields<'a> {
-    pub number: u32,
+    pub number: usize,
     pub left: &'a [u8],
     pub source: &'a [u8],
     pub mnemonic: &'a [u8],
@@ -154,9 +154,9 @@ pub fn chain_line(heap: Global, rule: ChainFields<'_>, cost: &[i32]) -> Result<V
 // How many operators, nonterminals and rules a grammar has.
 pub fn counts_line(
     heap: Global,
-    operators: u32,
-    nonterminals: u32,
-    rules: u32,
+    operators: usize,
+    nonterminals: usize,
+    rules: usize,
 ) -> Result<Vec<u8>, AllocError>
     ensures { λ r. ⌜ made r (λ v. vec-items v ≡ counts-line operators nonterminals rules) ⌝ }
 {
@@ -187,9 +187,9 @@ impl Source {
 pub fn fault_line(
     heap: Global,
     source: Source,
-    line: u32,
-    field: u32,
-    number: u32,
+    line: usize,
+    field: usize,
+    number: u8,
 ) -> Result<Vec<u8>, AllocError>
     ensures { λ r. ⌜ made r (λ v. vec-items v ≡ fault-line source line field number) ⌝ }
 {
