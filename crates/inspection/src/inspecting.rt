@@ -1,17 +1,20 @@
 // The whole text that is printed of a machine file.
+ghost use mathlib.Core.List.{_++_};
 ghost use mathlib.Core.Path.{_≡_};
+ghost use Prim.Native.Nat.{_≤_};
 ghost use Rattle.std.specs.Of.Vec.{vec-items};
 ghost use Rattle.std.specs.Vec.{made};
-ghost use Rattle.grammar.specs.Meaning.{grammar-lists};
+ghost use Rattle.grammar.specs.Meaning.{declared-lists, grammar-lists};
 ghost use Rattle.machine.specs.Machines.{machine-view};
-ghost use Rattle.inspection.specs.Inspections.{grammar-text, machine-text, fault-text, inspected, unreadable};
+ghost use Rattle.inspection.specs.Inspections.{lines-text, grammar-text, machine-text, fault-text, inspected, unreadable};
+use crate::lines::Listed;
 use crate::lines::NonterminalListed;
 use crate::lines::OperatorListed;
 use crate::lines::RuleListed;
-use crate::lines::push_lines;
 use cost::CountCost;
 use fault::MachineFault;
 use fault::Refusal;
+use grammar::declarations::Declarations;
 use grammar::grammar::Grammar;
 use listing::Source;
 use listing::counts_line;
@@ -25,6 +28,24 @@ use std::alloc::Global;
 use tariff::CountFigures;
 use tariff::Figures;
 use tariff::PairFigures;
+
+// Adds the lines of the items, of which the first has the number `first`.
+fn push_lines<C, T: Listed<C>>(
+    text: &mut Vec<u8>,
+    declarations: &Declarations<C>,
+    first: usize,
+    items: &[T],
+) -> Result<(), AllocError>
+    requires { ⌜ first ≤ 1 ⌝ }
+    ensures { λ r. ⌜ made r (λ _. vec-items (now (text .exit)) ≡ vec-items (now (text .entry)) ++ lines-text (written (declared-lists (now (declarations .entry)))) first (now (items .entry))) ⌝ }
+{
+    let heap = text.allocator();
+    for (i, item) in items.iter().enumerate() {
+        let line = ended(item.line(heap, declarations, first + i)?)?;
+        text.extend_from_slice(&line)?;
+    }
+    Ok(())
+}
 
 // A grammar's operators, nonterminals and rules, and how many there are of each.
 pub fn grammar_text<C: Copy + Figures>(

@@ -1,20 +1,19 @@
 // The lines of a grammar's operators, nonterminals and rules.
 ghost use mathlib.Core.Path.{_≡_};
-ghost use mathlib.Core.List.{List, _++_};
-ghost use Prim.Native.Nat.{ℕ, _≤_};
+ghost use mathlib.Core.List.{List};
+ghost use Prim.Native.Nat.{ℕ};
 ghost use Rattle.std.specs.Of.Vec.{vec-items};
 ghost use Rattle.std.specs.Vec.{made};
 ghost use Rattle.grammar.specs.Lists.{Lists};
 ghost use Rattle.grammar.specs.Meaning.{declared-lists};
 ghost use Rattle.grammar.specs.Views.{operator-of, nonterminal-of, rule-of};
 ghost use Rattle.listing.specs.Lines.{nt-line};
-ghost use Rattle.inspection.specs.Inspections.{lines-text, operator-line, rule-line};
+ghost use Rattle.inspection.specs.Inspections.{operator-line, rule-line};
 use crate::rules::rule_line;
 use grammar::declarations::Declarations;
 use grammar::parts::Nonterminal;
 use grammar::parts::Operator;
 use grammar::parts::Rule;
-use listing::ended;
 use listing::nt_line;
 use listing::op_line;
 use std::alloc::AllocError;
@@ -72,22 +71,4 @@ pub impl<C: Copy + Figures> Listed<C> for Rule<C> as RuleListed {
     ) -> Result<Vec<u8>, AllocError> {
         rule_line(heap, declarations, number, self)
     }
-}
-
-// Adds the lines of the items, of which the first has the number `first`.
-pub(crate) fn push_lines<C, T: Listed<C>>(
-    text: &mut Vec<u8>,
-    declarations: &Declarations<C>,
-    first: usize,
-    items: &[T],
-) -> Result<(), AllocError>
-    requires { ⌜ first ≤ 1 ⌝ }
-    ensures { λ r. ⌜ made r (λ _. vec-items (now (text .exit)) ≡ vec-items (now (text .entry)) ++ lines-text (written (declared-lists (now (declarations .entry)))) first (now (items .entry))) ⌝ }
-{
-    let heap = text.allocator();
-    for (i, item) in items.iter().enumerate() {
-        let line = ended(item.line(heap, declarations, first + i)?)?;
-        text.extend_from_slice(&line)?;
-    }
-    Ok(())
 }

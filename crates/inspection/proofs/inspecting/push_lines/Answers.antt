@@ -7,7 +7,7 @@ use Rattle.std.proofs.shelf.Ways.{tells}
 use Rattle.grammar.specs.Meaning.{declared-lists}
 use Rattle.inspection.specs.Inspections.{lines-text}
 use Rattle.inspection.proofs.Writing.{one-more}
-use Rattle.inspection.proofs.lines.push_lines.Needs as need
+use Rattle.inspection.proofs.inspecting.push_lines.Needs as need
 
 pub loop-i-again : need.loop-i-again
 loop-i-again g c =

@@ -5,7 +5,7 @@ use lib.ListN.{drop}
 use Rattle.std.specs.Of.Vec.{vec-items}
 use Rattle.grammar.specs.Meaning.{declared-lists}
 use Rattle.inspection.specs.Inspections.{lines-text}
-use Rattle.inspection.proofs.lines.push_lines.Given as given
+use Rattle.inspection.proofs.inspecting.push_lines.Given as given
 
 -- what is written and the lines to come are the whole
 abbrev pub Inv-loop-i : given.InvT-loop-i
