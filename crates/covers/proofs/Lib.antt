@@ -21,3 +21,4 @@ pub mod NodeTrees
 pub mod Rights
 pub mod Lightness
 pub mod ExampleSealed
+pub mod CostRows

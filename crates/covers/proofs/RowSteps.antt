@@ -28,7 +28,7 @@ use Rattle.covers.proofs.Chosen.{at-choices, choose-some, told, best-at, kids-
 use Rattle.covers.proofs.Shifts.{at-map, cond-map, Weighs, shift, plain, relax-shift, further-shift, is-rank-shift, with1-plain, with2-plain}
 use Rattle.covers.proofs.Lowests.{shift-all, row-shift, has-lowest, lowest-one, lowest-below}
 
-first-same : {C : Type 0} (f g : RuleOf C → Bool) (ρs : List (RuleOf C)) → ((i : ℕ) (ρ : RuleOf C) → nth ρs i ≡ Some ρ → f ρ ≡ g ρ) → (x : ℕ) → first-from f x ρs ≡ first-from g x ρs
+pub first-same : {C : Type 0} (f g : RuleOf C → Bool) (ρs : List (RuleOf C)) → ((i : ℕ) (ρ : RuleOf C) → nth ρs i ≡ Some ρ → f ρ ≡ g ρ) → (x : ℕ) → first-from f x ρs ≡ first-from g x ρs
 first-same f g [] h x = refl
 first-same f g (ρ ∷ ρs) h x = λ j. cond (h 0 ρ refl j) x (first-same f g ρs (λ i. h (suc i)) (suc x) j)
 

@@ -66,3 +66,22 @@ as-ranks (binary op k l) = binary op (map as-rank k) (map as-rank l)
 -- the row of a node from its operator and its kids' rows alone
 abbrev pub row-from : {C : Type 0} → Model C → Lists C → Applied (Row C) → Row C
 row-from m G s = row-of m (best-of m G (as-ranks s))
+
+-- a row with the least costs themselves in place of the costs above the least
+abbrev pub cost-entry : {C : Type 0} → Option (Best C) → Option (ℕ × C)
+cost-entry None = None
+cost-entry (Some x) = Some (x .2, x .0)
+
+-- the same of a tree
+abbrev pub cost-row : {C : Type 0} → Model C → Lists C → Tree → Row C
+cost-row m G t = map cost-entry (best m G t)
+
+-- a tree's operator with such rows of its kids
+abbrev pub kid-cost-rows : {C : Type 0} → Model C → Lists C → Tree → Applied (Row C)
+kid-cost-rows m G (node0 op p) = leaf op
+kid-cost-rows m G (node1 op p t) = unary op (cost-row m G t)
+kid-cost-rows m G (node2 op p t u) = binary op (cost-row m G t) (cost-row m G u)
+
+-- such a row of a node from its operator and such rows of its kids alone
+abbrev pub cost-row-from : {C : Type 0} → Model C → Lists C → Applied (Row C) → Row C
+cost-row-from m G s = map cost-entry (best-of m G (as-ranks s))

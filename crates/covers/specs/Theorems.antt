@@ -13,7 +13,7 @@ use Rattle.grammar.specs.Lists.{OperatorOf, Lists, Sealed}
 use Rattle.covers.specs.Trees.{count, leaf, unary, binary, Tree, node0, node1, node2, size, TreeFits}
 use Rattle.covers.specs.Covers.{Cover, Covers, cover-cost, chain-count, Least, Fewest, Chooses, LeastOfAll}
 use Rattle.covers.specs.Ranks.{at, least-cost, fewest-chains, choice}
-use Rattle.covers.specs.Rows.{row, row-from}
+use Rattle.covers.specs.Rows.{row, row-from, cost-row, kid-cost-rows, cost-row-from}
 use Rattle.covers.specs.Steps.{chosen, Follows, step-count, steps, total}
 use Rattle.covers.specs.Nodes.{Node, Listed, Subtree, subtree}
 use Rattle.covers.specs.Held.{In, Counts, Accepted, put-all, same-row, same-key, rows-held, label, key, keys-held}
@@ -87,6 +87,10 @@ pub record RowsFrom {C : Type 0} (m : Model C) (G : Lists C) : Type 0 where
 
 abbrev pub Inner-rows : {C : Type 0} → Model C → Type 0
 Inner-rows {C} m = (G : Lists C) → Sealed m G → RowsFrom m G
+
+-- the row with the least costs themselves depends in the same way on the operator and such rows of the kids
+abbrev pub Cost-rows : {C : Type 0} → Model C → Type 0
+Cost-rows {C} m = (G : Lists C) (t : Tree) → cost-row m G t ≡ cost-row-from m G (kid-cost-rows m G t)
 
 -- two trees with equal rows have from each nonterminal both covers or neither, and the same choice; and their least costs differ by
 -- the difference of the least of all

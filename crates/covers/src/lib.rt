@@ -3,7 +3,7 @@ use cost::Cost;
 ghost use Rattle.covers.specs.Example.{Cases};
 ghost use Rattle.covers.specs.Rounds.{Chains-close, Stops-early};
 ghost use Rattle.covers.specs.Weights.{Stays-light};
-ghost use Rattle.covers.specs.Theorems.{Covered-fits, Best-is-right, Rows-are-right, Steps-are-right, Chosen-is-right, Leaf-rows, Inner-rows, Equal-rows, Labels-are-right, Labels-stay, Subtrees-are-right};
+ghost use Rattle.covers.specs.Theorems.{Covered-fits, Best-is-right, Rows-are-right, Steps-are-right, Chosen-is-right, Leaf-rows, Inner-rows, Cost-rows, Equal-rows, Labels-are-right, Labels-stay, Subtrees-are-right};
 
 // One round fewer than there are nonterminals comes to the least of all runs of chain rules.
 pub fn chains_close<C: Cost>() -> u8
@@ -64,6 +64,13 @@ pub fn leaf_rows<C: Cost>() -> u8
 // The row of a node with kids depends on its operator and its kids' rows alone.
 pub fn inner_rows<C: Cost>() -> u8
     ensures { λ _. ⌜ Inner-rows (C·Cost .model) ⌝ }
+{
+    0
+}
+
+// The row with the least costs themselves depends on the operator and such rows of the kids alone.
+pub fn cost_rows<C: Cost>() -> u8
+    ensures { λ _. ⌜ Cost-rows (C·Cost .model) ⌝ }
 {
     0
 }

@@ -1,0 +1,4 @@
+pub mod Kept
+pub mod Views
+pub mod Ranked
+pub mod Choosing
