@@ -71,45 +71,38 @@ fn kid_named(text: &str) -> Result<Option<Name>, BadName> {
 
 // Makes the call, and gives the number answered.
 fn answer_of(draft: &mut Draft<Count>, call: Call) -> Result<Result<usize, DraftRefusal>, BadName> {
-    Ok(
-        match call {
-            Call::Operator(name, kids) => match draft.declare_operator(named(name)?, kids) {
-                Ok(number) => Ok(number.0),
-                Err(refusal) => Err(refusal),
-            },
-            Call::Nonterminal(name) => match draft.declare_nonterminal(named(name)?) {
-                Ok(number) => Ok(number.0),
-                Err(refusal) => Err(refusal),
-            },
-            Call::Base(left, operator, first, second, value, mnemonic) => {
-                let kids = KidNames {
-                    first: kid_named(first)?,
-                    second: kid_named(second)?,
-                };
-                match draft.add_base(
-                    named(left)?,
-                    named(operator)?,
-                    kids,
-                    Count { value },
-                    named(mnemonic)?,
-                ) {
-                    Ok(number) => Ok(number.0),
-                    Err(refusal) => Err(refusal),
-                }
-            }
-            Call::Chain(left, source, value, mnemonic) => {
-                match draft.add_chain(
-                    named(left)?,
-                    named(source)?,
-                    Count { value },
-                    named(mnemonic)?,
-                ) {
-                    Ok(number) => Ok(number.0),
-                    Err(refusal) => Err(refusal),
-                }
-            }
+    let answer = match call {
+        Call::Operator(name, kids) => match draft.declare_operator(named(name)?, kids) {
+            Ok(number) => Ok(number.0),
+            Err(refusal) => Err(refusal),
         },
-    )
+        Call::Nonterminal(name) => match draft.declare_nonterminal(named(name)?) {
+            Ok(number) => Ok(number.0),
+            Err(refusal) => Err(refusal),
+        },
+        Call::Base(left, operator, first, second, value, mnemonic) => {
+            let left = named(left)?;
+            let operator = named(operator)?;
+            let first = kid_named(first)?;
+            let second = kid_named(second)?;
+            let mnemonic = named(mnemonic)?;
+            let kids = KidNames { first, second };
+            match draft.add_base(left, operator, kids, Count { value }, mnemonic) {
+                Ok(number) => Ok(number.0),
+                Err(refusal) => Err(refusal),
+            }
+        }
+        Call::Chain(left, source, value, mnemonic) => {
+            let left = named(left)?;
+            let source = named(source)?;
+            let mnemonic = named(mnemonic)?;
+            match draft.add_chain(left, source, Count { value }, mnemonic) {
+                Ok(number) => Ok(number.0),
+                Err(refusal) => Err(refusal),
+            }
+        }
+    };
+    Ok(answer)
 }
 
 // Makes the calls in turn. Each must get its answer; one that is refused must leave the counts as they were, and any

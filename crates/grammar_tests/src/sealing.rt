@@ -14,6 +14,7 @@ use grammar::refusal::DraftRefusal::Undeclared;
 use grammar::refusal::DraftRefusal::Unfit;
 use grammar::refusal::DraftRefusal::Unpriced;
 use grammar::refusal::Part;
+use name::Name;
 use name::refusal::BadNameDebug;
 use std::test::*;
 
@@ -93,11 +94,15 @@ fn shape_of(form: Form) -> Shape {
     }
 }
 
+fn check_name(name: &Name, text: &str) -> Result<(), Fail> {
+    check(name.is(text.as_bytes())).note(text)
+}
+
 fn check_operators(declarations: &Declarations<Count>) -> Result<(), Fail> {
     check_eq(declarations.operators().len(), OPERATORS.len())?;
     for (operator, (name, kids)) in declarations.operators().iter().zip(OPERATORS.iter()) {
-        check(operator.name.is(name.as_bytes())).note(name)?;
-        check_eq(operator.kids, *kids).note(name)?;
+        check_name(&operator.name, name)?;
+        check_eq(operator.kids, *kids)?;
     }
     Ok(())
 }
@@ -105,7 +110,7 @@ fn check_operators(declarations: &Declarations<Count>) -> Result<(), Fail> {
 fn check_nonterminals(declarations: &Declarations<Count>) -> Result<(), Fail> {
     check_eq(declarations.nonterminals().len(), NONTERMINALS.len())?;
     for (nonterminal, name) in declarations.nonterminals().iter().zip(NONTERMINALS.iter()) {
-        check(nonterminal.name.is(name.as_bytes())).note(name)?;
+        check_name(&nonterminal.name, name)?;
     }
     Ok(())
 }
@@ -114,10 +119,10 @@ fn check_rules(declarations: &Declarations<Count>) -> Result<(), Fail> {
     check_eq(declarations.rules().len(), RULES.len())?;
     for (rule, listed) in declarations.rules().iter().zip(RULES.iter()) {
         let Listed(left, shape, value, mnemonic) = *listed;
-        check_eq(rule.left.0, left).note(mnemonic)?;
-        check_eq(shape_of(rule.form), shape).note(mnemonic)?;
-        check_eq(rule.cost.value, value).note(mnemonic)?;
-        check(rule.mnemonic.is(mnemonic.as_bytes())).note(mnemonic)?;
+        check_name(&rule.mnemonic, mnemonic)?;
+        check_eq(rule.left.0, left)?;
+        check_eq(shape_of(rule.form), shape)?;
+        check_eq(rule.cost.value, value)?;
     }
     Ok(())
 }
