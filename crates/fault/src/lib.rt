@@ -12,12 +12,12 @@ use grammar::refusal::DraftRefusalEq;
 use grammar::refusal::DraftRefusalPartialEq;
 use grammar::refusal::Part;
 
-// Why a line is refused before its fields are looked at.
+// Why a line is refused as a whole, or the first line of a file at a field.
 #[derive(Clone, Copy, Debug, PartialEq, Eq)]
 pub enum LineRefusal {
     // Over 8,192 bytes.
     TooLong,
-    // No line of a machine file begins like this.
+    // A line of no known kind, or a first line that is no `cost` line.
     Unknown,
     // The wrong number of fields.
     Miscounted,

@@ -73,7 +73,7 @@ pub record Priced {C : Type 0} (m : Model C) (G : Lists C) : Type 0 where
   pub from-zero : (r : ℕ) (ρ : RuleOf C) → rule G r ≡ Some ρ → m .cmp (ρ .cost) (m .zero) ≡ Less → ⊥
   pub light : (r : ℕ) (ρ : RuleOf C) → rule G r ≡ Some ρ → m .weight (ρ .cost) ≤ 1000
 
--- a sealed grammar is lawful
+-- what holds of every sealed grammar: it is within the limits, each rule's parts are declared and fit, and so do the costs
 pub record Sealed {C : Type 0} (m : Model C) (G : Lists C) : Type 0 where
   pub declared : Declared G
   pub priced : Priced m G

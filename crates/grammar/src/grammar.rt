@@ -1,4 +1,4 @@
-// A sealed grammar: it gives birth to labellers and takes no more rules.
+// A sealed grammar: what a draft had declared. It takes no more rules.
 ghost use mathlib.Core.Path.{_≡_};
 ghost use Rattle.grammar.specs.Lists.{Declared};
 ghost use Rattle.grammar.specs.Meaning.{declared-lists, grammar-lists};

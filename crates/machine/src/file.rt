@@ -6,8 +6,8 @@ ghost use Rattle.std.specs.declared.result.Result.the-variants.{Ok, Err};
 ghost use Rattle.name.specs.Outcomes.{mapOk};
 ghost use Rattle.field.specs.Readers.{toCome, nextPlace};
 ghost use Rattle.grammar.specs.Drafting.{empty};
-ghost use Rattle.grammar.specs.Lists.{Sealed};
-ghost use Rattle.grammar.specs.Meaning.{grammar-lists};
+ghost use Rattle.grammar.specs.Lists.{Priced, Sealed};
+ghost use Rattle.grammar.specs.Meaning.{draft-lists, grammar-lists};
 ghost use Rattle.entry.specs.EntryViews.{header-view};
 ghost use Rattle.machine.specs.Files.{numbered, all-taken, first-of, machine-in, machine-of};
 ghost use Rattle.machine.specs.Readings.{Reading};
@@ -53,14 +53,25 @@ fn first_line(lines: &mut LineReader) -> Result<Header, MachineFault>
     in_line(part.place, header_of(part.text))
 }
 
+// The grammar that the lines that are left declare, in a draft, whose memory is there: so only a fault can be in the way.
+pub fn fill<C: Tariff>(
+    mut draft: Draft<C>,
+    lines: &mut LineReader,
+) -> Result<Grammar<C>, MachineFault>
+    ensures value { λ r. ⌜ mapOk grammar-lists r ≡ all-taken (C·Cost .model) (C·Tariff .priced) (draft-lists draft) (numbered (nextPlace (now (lines .entry))) (toCome (now (lines .entry)))) ⌝ }
+    ensures sealed { λ r. ⌜ (Priced (C·Cost .model) (draft-lists draft) → made r (λ g. Sealed (C·Cost .model) (grammar-lists g))) ⌝ }
+{
+    take_lines(&mut draft, lines)?;
+    Ok(draft.seal())
+}
+
 // The grammar that the lines that are left declare.
 fn read_rest<C: Tariff>(heap: Global, lines: &mut LineReader) -> Result<Grammar<C>, ReadError>
     ensures value { λ r. ⌜ Cases r (λ g. Ok (grammar-lists g) ≡ all-taken (C·Cost .model) (C·Tariff .priced) empty (numbered (nextPlace (now (lines .entry))) (toCome (now (lines .entry))))) (λ e. Answers e (all-taken (C·Cost .model) (C·Tariff .priced) empty (numbered (nextPlace (now (lines .entry))) (toCome (now (lines .entry)))))) ⌝ }
     ensures sealed { λ r. ⌜ made r (λ g. Sealed (C·Cost .model) (grammar-lists g)) ⌝ }
 {
-    let mut draft = Draft::new(heap)?;
-    take_lines(&mut draft, lines)?;
-    Ok(draft.seal())
+    let draft = Draft::new(heap)?;
+    Ok(fill(draft, lines)?)
 }
 
 // The machine that a header and the lines that are left give.
