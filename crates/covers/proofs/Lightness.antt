@@ -148,6 +148,13 @@ module _ {C : Type 0} {m : Model C} (l : Laws m) {G : Lists C} (sealed : Sealed 
       let v : m .weight (m .diff (h .cost) (h .lowest)) ≤ 131072000 = omega arith in
       subst (λ z. m .weight z ≤ 131072000) (h .above) v
 
+  -- a rule's cost with one that weighs at most 131,072,000
+  under-light : (r : ℕ) (ρ : RuleOf C) (c : C) → rule G r ≡ Some ρ → m .weight c ≤ 131072000 → m .weight (m .sum (ρ .cost) c) ≤ third
+  under-light r ρ c stands w =
+      let light = sealed .priced .light r ρ stands in
+      let sum = l .sum-weight (ρ .cost) c (omega arith) in
+      omega arith
+
   totals-light : (t : Tree) → size t ≤ 2048 → (k : Cover) (n i : ℕ) → Covers G k t n → m .weight (total m G (take i (steps t k))) ≤ 65536000
   totals-light t s k n i h =
       let xs = take i (steps t k) in
@@ -165,6 +172,8 @@ module _ {C : Type 0} {m : Model C} (l : Laws m) {G : Lists C} (sealed : Sealed 
     least = least-light l sealed t s;
     least-of-all = λ f h. least-light l sealed t s (h .some .0) f (h .some .1);
     above = above-light t s;
+    under-rule = λ r ρ n c stands h. under-light r ρ c stands (let w = least-light l sealed t s n c h in omega arith);
+    above-under-rule = λ r ρ n q x stands e. under-light r ρ x stands (above-light t s n q x e);
     from-least-costs = from-own t (kids-right l sealed t s) s;
     from-rows = from-rows t s;
     totals = totals-light t s;

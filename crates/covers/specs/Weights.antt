@@ -33,13 +33,15 @@ pub record LightFrom {C : Type 0} (m : Model C) (G : Lists C) (s : Applied (Rank
   pub chains-held : (j i : ℕ) → Weigh m third (after-rounds m G s j i)
   pub chains-given : (j i r : ℕ) (ρ : RuleOf C) (p : Rank C) → rule G r ≡ Some ρ → chain-offer m (after-rounds m G s j i) (ρ .cost) (ρ .form) ≡ Some p → m .weight (p .0) ≤ third
 
--- covers, least costs, the costs of a row, the costs on the way to a row, from the kids' least costs or from their rows, and the
+-- covers, least costs, the costs of a row, a rule's cost with that of its left kid t, the costs on the way to a row, from the kids' least costs or from their rows, and the
 -- costs on the way to the total of a cover's steps
 pub record LightTree {C : Type 0} (m : Model C) (G : Lists C) (t : Tree) : Type 0 where
   pub covers : (k : Cover) (n : ℕ) → Covers G k t n → m .weight (cover-cost m G k) ≤ 32000 * size t
   pub least : (n : ℕ) (c : C) → Least m G t n c → m .weight c ≤ 65536000
   pub least-of-all : (f : C) → LeastOfAll m G t f → m .weight f ≤ 65536000
   pub above : (n r : ℕ) (x : C) → at (row m G t) n ≡ Some (r, x) → m .weight x ≤ 131072000
+  pub under-rule : (r : ℕ) (ρ : RuleOf C) (n : ℕ) (c : C) → rule G r ≡ Some ρ → Least m G t n c → m .weight (m .sum (ρ .cost) c) ≤ third
+  pub above-under-rule : (r : ℕ) (ρ : RuleOf C) (n q : ℕ) (x : C) → rule G r ≡ Some ρ → at (row m G t) n ≡ Some (q, x) → m .weight (m .sum (ρ .cost) x) ≤ third
   pub from-least-costs : LightFrom m G (kid-ranks m G t)
   pub from-rows : LightFrom m G (as-ranks (kid-rows m G t))
   pub totals : (k : Cover) (n i : ℕ) → Covers G k t n → m .weight (total m G (take i (steps t k))) ≤ 65536000

@@ -14,11 +14,11 @@ use Rattle.std.specs.declared.option.Option.the-variants.{Some, None}
 use Rattle.cost.specs.Model.{Model}
 use Rattle.grammar.specs.Lists.{FormOf, chain, base0, base1, base2, RuleOf, Lists, Declared}
 use Rattle.covers.specs.Trees.{count, Applied}
-use Rattle.covers.specs.Ranks.{Rank, Ranks, Best, by-rank, at, better, further, base-offer, chain-offer, relax, bases, round, rounds, ranked}
+use Rattle.covers.specs.Ranks.{Rank, Ranks, Best, by-rank, at, better, further, base-offer, chain-offer, offer, relax, bases, round, rounds, ranked}
 use Rattle.covers.proofs.Relaxing.{some-is, none-some}
 use Rattle.covers.proofs.Shifts.{at-map}
 use Rattle.row.specs.Kept.{improves, keep, keep-given, pass, base-gives, more, over-source, chain-gives, times, round-of}
-use Rattle.row.specs.Ranked.{rank-part, RanksAre}
+use Rattle.row.specs.Ranked.{rank-part, Few, RanksAre}
 use Rattle.row.specs.Views.{kept-of}
 use Rattle.row.specs.declared.work.Work.{Work}
 
@@ -134,11 +134,22 @@ module _ {C : Type 0} (m : Model C) where
       let same : ranks-part next ≡ relax m (ranks-part xs) (ρ .left) (chain-offer m (ranks-part xs) (ρ .cost) (ρ .form)) = keep-rank xs (ρ .left) r o ∙ ap (relax m (ranks-part xs) (ρ .left)) (gives-is xs (ρ .cost) (ρ .form) (looser xs b 1000000 (omega arith) h)) in
       (rest .0 ∙ ap (λ z. round m z ρs) same, looser (pass m (chain-gives m) next (suc r) ρs) (suc b + length ρs) (b + suc (length ρs)) (omega arith) (rest .1))
 
-  times-rounds : (ρs : List (RuleOf C)) → length ρs ≤ 256 → (k b : ℕ) (xs : List (Option (Best C))) → Bounded b xs → b + 256 * k ≤ 1000000 → ranks-part (times (round-of m ρs) k xs) ≡ rounds m k (ranks-part xs) ρs
-  times-rounds ρs few zero b xs h s = refl
+  times-rounds : (ρs : List (RuleOf C)) → length ρs ≤ 256 → (k b : ℕ) (xs : List (Option (Best C))) → Bounded b xs → b + 256 * k ≤ 1000000 → (ranks-part (times (round-of m ρs) k xs) ≡ rounds m k (ranks-part xs) ρs) × Bounded 1000000 (times (round-of m ρs) k xs)
+  times-rounds ρs few zero b xs h s = (refl, looser xs b 1000000 (omega arith) h)
   times-rounds ρs few (suc k) b xs h s =
       let one = pass-round ρs xs 1 b h (omega arith) in
-      times-rounds ρs few k (b + 256) (round-of m ρs xs) (looser (round-of m ρs xs) (b + length ρs) (b + 256) (omega arith) (one .1)) (omega arith) ∙ ap (λ z. rounds m k z ρs) (one .0)
+      let rest = times-rounds ρs few k (b + 256) (round-of m ρs xs) (looser (round-of m ρs xs) (b + length ρs) (b + 256) (omega arith) (one .1)) (omega arith) in
+      (rest .0 ∙ ap (λ z. rounds m k z ρs) (one .0), rest .1)
+
+  few-by : (o : Option (Best C)) → ((y : Best C) → o ≡ Some y → y .1 ≤ 1000000) → (p : Rank C) → rank-part o ≡ Some p → p .1 ≤ 1000000
+  few-by None h p e = absurd (none-some p e)
+  few-by (Some y) h p e = subst (λ z. z .1 ≤ 1000000) (some-is (y .0, y .1) p e) (h y refl)
+
+  bounded-few : (xs : List (Option (Best C))) → Bounded 1000000 xs → Few (ranks-part xs)
+  bounded-few xs h n p e = few-by (at xs n) (h n) p (sym (at-map rank-part refl xs n) ∙ e)
+
+  few-bounded : (xs : List (Option (Best C))) → Few (ranks-part xs) → Bounded 1000000 xs
+  few-bounded xs h n y e = h n (y .0, y .1) (at-map rank-part refl xs n ∙ ap rank-part e)
 
   blank-bounded : (n : ℕ) → Bounded 0 (replicate {A = Option (Best C)} n None)
   blank-bounded zero k y e = absurd (none-some y e)
@@ -156,7 +167,8 @@ module _ {C : Type 0} (m : Model C) where
       let start = pass m (base-gives m s) (replicate n None) 1 ρs in
       let began : ranks-part start ≡ bases m s (replicate n None) ρs = pass-bases s ρs (replicate n None) 1 ∙ ap (λ z. bases m s z ρs) (blank-part n) in
       let turns : n - 1 ≡ pred n = omega arith in
-      ap ranks-part e ∙ times-rounds ρs few (n - 1) 0 start (bases-bounded s ρs (replicate n None) 1 (blank-bounded n)) (omega arith) ∙ (λ i. rounds m (turns i) (began i) ρs) ∙ sym (λ i. rounds m (pred (counts i)) (bases m s (replicate (counts i) None) (rules i)) (rules i))
+      let ran = times-rounds ρs few (n - 1) 0 start (bases-bounded s ρs (replicate n None) 1 (blank-bounded n)) (omega arith) in
+      (ap ranks-part e ∙ ran .0 ∙ (λ i. rounds m (turns i) (began i) ρs) ∙ sym (λ i. rounds m (pred (counts i)) (bases m s (replicate (counts i) None) (rules i)) (rules i)), bounded-few xs (subst (Bounded 1000000) (sym e) (ran .1)))
 
   blank-kept : (n : ℕ) → map kept-of (replicate {A = Option (Work C)} n None) ≡ replicate n None
   blank-kept zero = refl
@@ -167,3 +179,14 @@ module _ {C : Type 0} (m : Model C) where
   ranks-done ρs n s cleared based ended p q e f =
       let start : map kept-of based ≡ pass m (base-gives m s) (replicate n None) 1 ρs = e ∙ ap (λ z. pass m (base-gives m s) z 1 ρs) (ap (map kept-of) p ∙ blank-kept n) in
       ranks-are ρs n s (map kept-of ended) (f ∙ (λ i. times (round-of m ρs) (q i - 1) (start i)))
+
+  -- ---- what any rule gives
+
+  chain-or-none : (s : Applied (Ranks C)) (rs : Ranks C) (c : C) (f : FormOf) → base-offer m s c f ≡ None → chain-offer m rs c f ≡ offer m s rs c f
+  chain-or-none s rs c (chain x) e = refl
+  chain-or-none s rs c (base0 o) e = sym e
+  chain-or-none s rs c (base1 o a) e = sym e
+  chain-or-none s rs c (base2 o a b) e = sym e
+
+  pub chain-is-offer : (s : Applied (Ranks C)) (xs : List (Option (Best C))) (c : C) (f : FormOf) → base-offer m s c f ≡ None → Few (ranks-part xs) → over-source m xs c f ≡ offer m s (ranks-part xs) c f
+  chain-is-offer s xs c f e few = gives-is xs c f (few-bounded xs few) ∙ chain-or-none s (ranks-part xs) c f e

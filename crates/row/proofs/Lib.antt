@@ -1,5 +1,7 @@
 pub mod Keeping
 pub mod Passing
 pub mod Erasing
-pub mod FirstKept
 pub mod Firsts
+pub mod Writing
+pub mod Choosing
+pub mod Lowering

@@ -58,3 +58,7 @@ times f (suc k) x = times f k (f x)
 -- a round over the chain rules
 abbrev pub round-of : {C : Type 0} → Model C → List (RuleOf C) → List (Option (Best C)) → List (Option (Best C))
 round-of m ρs xs = pass m (chain-gives m) xs 1 ρs
+
+-- what stands at a place, with its cost above f
+abbrev pub lowered : {C : Type 0} → Model C → C → Option (Best C) → Option (Best C)
+lowered m f o = mapped (λ y. (m .diff (y .0) f, y .1, y .2)) o

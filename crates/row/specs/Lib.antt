@@ -1,4 +1,3 @@
 pub mod Kept
 pub mod Views
 pub mod Ranked
-pub mod Choosing

@@ -23,6 +23,7 @@ pub trait KidRow {
 }
 
 // An operator with the rows of its kids.
+#[derive(Drop)]
 pub enum Kids<'a, K> {
     Leaf(usize),
     Unary(usize, &'a K),
