@@ -1,4 +1,7 @@
 //! A labeller that works out a row once for each key: an automaton whose states are made when a tree first needs them.
+
+#![tactic(auto)]
+
 ghost use Rattle.std.specs.Prelude.{◌≡◌, ◌≤◌, ◌∷◌, length};
 ghost use Rattle.std.specs.List.{slice_get};
 ghost use Rattle.std.specs.Option.{option_map};

@@ -1,4 +1,7 @@
 // The worked cases of the example machine, all in one statement.
+
+#![tactic(auto)]
+
 ghost use Rattle.cases.specs.Cases.{EightCases};
 
 use covers::example_machine;

@@ -1,4 +1,7 @@
 // What a cost is, and two makes of it: a count, and a pair of any two makes.
+
+#![tactic(auto)]
+
 ghost use Rattle.std.specs.Prelude.{◌≡◌, ℕ, ◌+◌, ◌^◌, ◌≤◌};
 ghost use Rattle.cost.specs.Model.{Model, Laws, Exact};
 ghost use Rattle.cost.specs.Counts.{count_model};

@@ -1,4 +1,7 @@
 // A third make of cost, as docs/costs.md explains it, and that page's example of a pair.
+
+#![tactic(auto)]
+
 ghost use Rattle.std.specs.Prelude.{◌≡◌, pos, negsuc};
 ghost use Rattle.std.specs.declared.cmp.Ordering.TheVariants.{Greater};
 ghost use Rattle.cost.specs.Counts.{count};

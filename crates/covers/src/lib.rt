@@ -1,4 +1,7 @@
 // Covers, least costs, choices, rows and labels of trees: the theorems about them, each on the contract of a function.
+
+#![tactic(auto)]
+
 ghost use Rattle.covers.specs.Example.{Cases};
 ghost use Rattle.covers.specs.Rounds.{ChainsClose, StopsEarly};
 ghost use Rattle.covers.specs.Weights.{StaysLight};

@@ -1,4 +1,7 @@
 //! What rows are kept as: entries that each follow another one, and ends of rows. Both are keys of a table.
+
+#![tactic(auto)]
+
 ghost use Rattle.std.specs.Prelude.{◌≡◌};
 ghost use Rattle.entries.specs.Keys.{entry_key, end_key, same_link, link_scatter, same_choice, choice_scatter, no_entry, no_end};
 ghost use Rattle.entries.specs.Laws.{entry_laws};

@@ -1,4 +1,7 @@
 // The lines of a machine file: what each says, or why it is refused.
+
+#![tactic(auto)]
+
 pub mod header;
 pub mod kind;
 pub mod lines;

@@ -1,4 +1,7 @@
 // What is wrong with a machine file, and where.
+
+#![tactic(auto)]
+
 ghost use Rattle.std.specs.Prelude.{◌≡◌};
 ghost use Rattle.fault.specs.Faults.{refusal_number, draft_field, field_field, part_field, draft_fault, field_fault};
 

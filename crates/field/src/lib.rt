@@ -1,4 +1,7 @@
 // The fields of a line, each with its place, read as names, numbers, kids and items.
+
+#![tactic(auto)]
+
 mod cut;
 pub mod fault;
 mod forms;

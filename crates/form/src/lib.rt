@@ -1,4 +1,7 @@
 // The forms of a number in a text: counts of kids, costs, cycles and payloads.
+
+#![tactic(auto)]
+
 ghost use Rattle.std.specs.Prelude.{◌≡◌, ◌^◌, ◌<◌, ◌≤◌, IfSome};
 ghost use Rattle.form.specs.Numbers.{digits_of, at_most, rounded, kids_of, cost_of, decimal_of, cycles_of, payload_of};
 

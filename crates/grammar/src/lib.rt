@@ -1,4 +1,7 @@
 // Grammars for tree-parsing instruction selection: a draft takes declarations and rules, and is sealed into a grammar.
+
+#![tactic(auto)]
+
 pub mod declarations;
 pub mod draft;
 mod finding;

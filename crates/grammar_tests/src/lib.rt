@@ -1,4 +1,7 @@
 // Tests of drafts, and of the grammars that they are sealed into.
+
+#![tactic(auto)]
+
 #[cfg(test)]
 mod calls;
 #[cfg(test)]

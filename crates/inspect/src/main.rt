@@ -1,4 +1,7 @@
 // Prints what a machine file declares, or its fault. The file is `machine.txt`, or the path that is given.
+
+#![tactic(auto)]
+
 use inspection::{inspect_text, unreadable_text};
 use machine::file::LONGEST_FILE;
 use std::fs::File;

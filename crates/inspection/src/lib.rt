@@ -1,4 +1,7 @@
 // What `inspect` prints of a machine file: a line for each operator, nonterminal and rule and their counts, or a fault.
+
+#![tactic(auto)]
+
 mod inspecting;
 mod lines;
 mod names;

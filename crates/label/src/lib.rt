@@ -1,4 +1,7 @@
 //! What a labeller is: it takes the nodes of a tree and knows the rule chosen for each nonterminal at each node.
+
+#![tactic(auto)]
+
 ghost use Rattle.std.specs.Prelude.{◌≡◌, length};
 ghost use Rattle.std.specs.List.{slice_get};
 ghost use Rattle.std.specs.Option.{option_map};

@@ -1,4 +1,7 @@
 // Reading machine files: each line is taken into a draft, or the first fault is answered.
+
+#![tactic(auto)]
+
 pub mod drafting;
 mod drafts;
 pub mod file;

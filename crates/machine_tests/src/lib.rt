@@ -1,4 +1,7 @@
 // Tests of machine files, and of the forms of their fields.
+
+#![tactic(auto)]
+
 #[cfg(test)]
 mod files;
 #[cfg(test)]

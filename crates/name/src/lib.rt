@@ -1,4 +1,7 @@
 // A name: 1 to 16 letters, digits, `_` and `.`.
+
+#![tactic(auto)]
+
 ghost use Rattle.std.specs.Prelude.{◌≡◌, ◌≤◌, true, take};
 ghost use Rattle.name.specs.Texts.{is_name};
 

@@ -1,4 +1,7 @@
 //! A holder of a list of nodes by value, and tests of the checks.
+
+#![tactic(auto)]
+
 ghost use Rattle.std.specs.Prelude.{◌≡◌, ℕ, List, [], map, Option as Maybe};
 ghost use Rattle.grammar.specs.Views.{operator_of};
 ghost use Rattle.covers.specs.Nodes.{Node as NodeOf, Listed};

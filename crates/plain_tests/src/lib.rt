@@ -1,4 +1,7 @@
 //! A labeller driven through its trait, and tests of the plain labeller.
+
+#![tactic(auto)]
+
 ghost use Rattle.std.specs.Prelude.{◌≡◌};
 ghost use Rattle.label.specs.Meaning.{Meaning};
 

@@ -1,4 +1,7 @@
 // The row of a node, worked out from its operator and its kids' rows in lent work places.
+
+#![tactic(auto)]
+
 mod bases;
 mod best;
 mod choice;

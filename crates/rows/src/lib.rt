@@ -1,4 +1,7 @@
 //! The rows held, kept shared in two tables over lent memory.
+
+#![tactic(auto)]
+
 mod held;
 mod kid;
 mod walks;

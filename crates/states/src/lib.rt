@@ -1,4 +1,7 @@
 //! The states of an automaton: the rows and keys of accepted nodes, and the label of each key.
+
+#![tactic(auto)]
+
 mod known;
 mod placing;
 mod states;

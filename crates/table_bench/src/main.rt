@@ -1,6 +1,9 @@
 //! Puts n keys into a table of n places, puts each again, finds each, and looks for n others. Prints how many were added, held
 //! and found. With the argument `large` n goes up to 65,536; with `time` the nanoseconds for one call follow, which must not
 //! grow with n beyond what a larger memory costs.
+
+#![tactic(auto)]
+
 use std::alloc::{AllocError, Global};
 use std::env;
 use std::time::Instant;

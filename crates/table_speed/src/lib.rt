@@ -1,4 +1,7 @@
 //! One exported function, by which a program in another language can time a table of numbers.
+
+#![tactic(auto)]
+
 ghost use Rattle.std.specs.Prelude.{◌≡◌, ℕ, ◌*◌, ◌%◌, ◌^◌, ◌⊎◌, List, IfOk};
 ghost use Rattle.table.specs.Keys.{number_key};
 ghost use Rattle.table.specs.Chains.{Means, room_of};

@@ -1,4 +1,7 @@
 //! An owner of two tables of different keys, one of them generic over a cost, with a lent slice beside them.
+
+#![tactic(auto)]
+
 ghost use Rattle.std.specs.Prelude.{◌≡◌, ℕ, ◌≤◌, List, [], length};
 ghost use Rattle.cost.specs.Model.{Model};
 ghost use Rattle.table.specs.Keys.{place_of};

@@ -1,4 +1,7 @@
 // How costs are made of the cycles and bytes of a machine file, and which numbers are printed of them.
+
+#![tactic(auto)]
+
 ghost use Rattle.std.specs.Prelude.{◌≡◌, ℕ, List, [], ◌∷◌, ◌++◌, ℤ, OnOk};
 ghost use Rattle.tariff.specs.Tariffs.{counted, cycles_first};
 
