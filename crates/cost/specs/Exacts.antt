@@ -1,42 +1,38 @@
 -- `==` is exact of a pair, an option and a list where it is exact of the parts.
-use Rattle.std.specs.Prelude.{◌≡◌, Bool, true, false, cond, List, [], ◌∷◌, is_some, Some, None, Decides, Option, MatchOption, refl}
-use Rattle.std.proofs.Common.{sym, ap, ◌∙◌, true≢false, inl, inr}
-use Rattle.std.specs.Cmp.Lexicographic.{Matches, Same, Apart}
+use Rattle.std.specs.Prelude.{◌≡◌, Bool, true, false, ◌&&◌, List, [], ◌∷◌, is_some, Some, None, Decides, Option, refl}
+use Rattle.std.proofs.Common.{sym, ap, subst, true≢false}
+use Rattle.std.specs.Option.{option_eq}
+use Rattle.std.specs.Cmp.Lexicographic.{pointwise}
 use Rattle.std.proofs.lemmas.Slice.Eq.{slice_eq-Decides}
 use Rattle.cost.specs.Model.{Exact}
 use Rattle.cost.specs.declared.Pair.{Pair}
-use Rattle.std.proofs.lemmas.Bool.Decides.{Decides-eqb}
 
-module _ {A B : Type 0} {P : A → A → Bool → Type 0} {Q : B → B → Bool → Type 0} (p : Exact P) (q : Exact Q) where
+module _ {A B : Type 0} {E : A → A → Bool} {F : B → B → Bool} (p : Exact (λ a b r. r ≡ E a b)) (q : Exact (λ a b r. r ≡ F a b)) where
+  parts : (x y : Pair A B) (s t : Bool) → Decides s (x.first ≡ y.first) → Decides t (x.second ≡ y.second) → Decides (s && t) (x ≡ y)
+  parts x y true t d e = (λ w i. record { first = d.0 refl i; second = e.0 w i }, λ w. e.1 (ap (λ z. z.second) w))
+  parts x y false t d e = (λ w. absurd (true≢false (sym w)), λ w. absurd (true≢false (sym (d.1 (ap (λ z. z.first) w)))))
+
   -- the `==` that is derived for a pair
-  pub exact_pair : Exact (λ (x y : Pair A B) (r : Bool). cond r (P x.first y.first true × Q x.second y.second true) ((P x.first y.first false → ⊥) → (Q x.second y.second false → ⊥) → ⊥))
-  exact_pair x y true h = (λ _ i. record { first = (p x.first y.first true h.0).0 refl i; second = (q x.second y.second true h.1).0 refl i }, λ _. refl)
-  exact_pair x y false h = (λ t. absurd (true≢false (sym t)), λ e. absurd (h (λ k. true≢false (sym ((p x.first y.first false k).1 (ap (λ z. z.first) e)))) (λ k. true≢false (sym ((q x.second y.second false k).1 (ap (λ z. z.second) e))))))
+  pub exact_pair : Exact (λ (x y : Pair A B) (r : Bool). r ≡ (E x.first y.first && F x.second y.second))
+  exact_pair x y r h =
+      subst (λ t. Decides t (x ≡ y)) (sym h) (parts x y (E x.first y.first) (F x.second y.second) (p x.first y.first _ refl) (q x.second y.second _ refl))
 
-module _ {C : Type 0} {E : C → C → Bool → Type 0} (e : Exact E) where
-  -- the `==` of an option
-  pub exact_option : Exact (λ (o p : Option C) (r : Bool). MatchOption o (MatchOption p (r ≡ true) (λ _. r ≡ false)) (λ x. MatchOption p (r ≡ false) (λ y. E x y r)))
-  exact_option None None r h = (λ _. refl, λ _. h)
-  exact_option None (Some y) r h = (λ t. absurd (true≢false (sym t ∙ h)), λ k. absurd (true≢false (sym (ap is_some k))))
-  exact_option (Some x) None r h = (λ t. absurd (true≢false (sym t ∙ h)), λ k. absurd (true≢false (ap is_some k)))
-  exact_option (Some x) (Some y) r h =
+module _ {C : Type 0} {E : C → C → Bool} (e : Exact (λ a b r. r ≡ E a b)) where
+  decides : (a b : C) → Decides (E a b) (a ≡ b)
+  decides a b = e a b (E a b) refl
+
+  options : (o p : Option C) → Decides (option_eq E o p) (o ≡ p)
+  options None None = (λ _. refl, λ _. refl)
+  options None (Some y) = (λ t. absurd (true≢false (sym t)), λ k. absurd (true≢false (sym (ap is_some k))))
+  options (Some x) None = (λ t. absurd (true≢false (sym t)), λ k. absurd (true≢false (ap is_some k)))
+  options (Some x) (Some y) =
       let back : Some x ≡ Some y → x ≡ y = λ k. cc in
-      (λ t. ap Some ((e x y r h).0 t), λ k. (e x y r h).1 (back k))
+      (λ t. ap Some ((decides x y).0 t), λ k. (decides x y).1 (back k))
 
-  same_weaker : (xs ys : List C) → Same E xs ys → Same (λ (a b : C) (t : Bool). Decides t (a ≡ b)) xs ys
-  same_weaker [] [] h = tt
-  same_weaker [] (y ∷ ys) h = h
-  same_weaker (x ∷ xs) [] h = h
-  same_weaker (x ∷ xs) (y ∷ ys) h = (e x y true h.0, same_weaker xs ys h.1)
-
-  apart_weaker : (xs ys : List C) → Apart E xs ys → Apart (λ (a b : C) (t : Bool). Decides t (a ≡ b)) xs ys
-  apart_weaker [] ys h = h
-  apart_weaker (x ∷ xs) [] h = h
-  apart_weaker (x ∷ xs) (y ∷ ys) (inl h) = inl (e x y false h)
-  apart_weaker (x ∷ xs) (y ∷ ys) (inr h) = inr (apart_weaker xs ys h)
+  -- the `==` of an option
+  pub exact_option : Exact (λ (o p : Option C) (r : Bool). r ≡ option_eq E o p)
+  exact_option o p r h = subst (λ t. Decides t (o ≡ p)) (sym h) (options o p)
 
   -- the `==` of slices
-  pub exact_list : Exact (λ (xs ys : List C). Matches E xs ys)
-  exact_list xs ys true h = slice_eq-Decides Decides-eqb xs ys true (h.0, same_weaker xs ys h.1)
-  exact_list xs ys false (inl h) = slice_eq-Decides Decides-eqb xs ys false (inl h)
-  exact_list xs ys false (inr h) = slice_eq-Decides Decides-eqb xs ys false (inr (apart_weaker xs ys h))
+  pub exact_list : Exact (λ (xs ys : List C) (r : Bool). r ≡ pointwise E xs ys)
+  exact_list xs ys r h = slice_eq-Decides decides xs ys r h

@@ -32,7 +32,7 @@ module _ (fit : ℤ → ℤ) (fit_is : (z : ℤ) → unsigned_abs z < 2147483648
     sum = λ a b. fit (a +ℤ b);
     diff = λ a b. fit (a -ℤ b);
     cmp = int_cmp;
-    weight = nat_abs;
+    weight = unsigned_abs;
   }
 
   fit_sum : (a b : ℤ) → unsigned_abs a + unsigned_abs b ≤ limit → fit (a +ℤ b) ≡ a +ℤ b

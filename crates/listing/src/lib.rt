@@ -40,7 +40,8 @@ impl Line {
     pub fn number<N: Display + Drop>(self, value: N) -> Result<Line, AllocError>
         ensures { IfOk result (λ l. IfSome (N.Display.output value) (λ text. line_bytes l ≡ with_field (line_bytes self) text)) }
     {
-        let text = value.to_string(self.bytes.allocator())?;
+        let heap = *self.bytes.allocator();
+        let text = value.to_string(heap)?;
         self.word(text.as_bytes())
     }
 

@@ -5,9 +5,9 @@ use Rattle.std.proofs.lemmas.Bool.Decides.{nat_tests}
 use Rattle.form.specs.Numbers.{digits_from, digits_of}
 use Rattle.form.proofs.digits.Goals as goal
 
-pub returns-then-not-is-ascii-digit : goal.returns-then-not-is-ascii-digit
+pub returns-then-not-is_ascii_digit : goal.returns-then-not-is_ascii_digit
 unfolding digits_from digits_of
-returns-then-not-is-ascii-digit c =
+returns-then-not-is_ascii_digit c =
     let e = at_drop_more (digits_from c.loop-byte.n) c.args.text.now c.loop-byte.byte-index 0 (omega arith) in
     record { value = grind (arith, nat_tests); bound = tt }
 

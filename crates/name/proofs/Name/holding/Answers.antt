@@ -8,12 +8,12 @@ use Rattle.name.proofs.Name.holding.Goals as goal
 front : (xs ys zs : List ℕ) → ys ≡ xs → take (length xs) (ys ++ zs) ≡ xs
 front xs ys zs e = rw e (take_at xs zs (length xs) refl)
 
-pub slice-bounds-kept-end : goal.slice-bounds-kept-end
-slice-bounds-kept-end c = let h = name_sized c.args.bytes.now c.requires in search rules
+pub slice_bounds-kept-end : goal.slice_bounds-kept-end
+slice_bounds-kept-end c = let h = name_sized c.args.bytes.now c.requires in search rules
 
-pub invariant-of-result : goal.invariant-of-result
-invariant-of-result c =
-    ((name_sized c.args.bytes.now c.requires).1, (ap is_name (front _ _ _ c.copy-from-slice.ensures.after) ∙ c.requires, tt))
+pub invariant_of-result : goal.invariant_of-result
+invariant_of-result c =
+    record { short = (name_sized c.args.bytes.now c.requires).1; named = ap is_name (front _ _ _ c.copy_from_slice.ensures.after) ∙ c.requires }
 
 pub returns : goal.returns
-returns c = front _ _ _ c.copy-from-slice.ensures.after
+returns c = front _ _ _ c.copy_from_slice.ensures.after

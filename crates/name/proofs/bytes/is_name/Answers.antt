@@ -4,9 +4,9 @@ use Rattle.std.proofs.lemmas.Bool.Decides.{nat_tests}
 use Rattle.name.specs.Texts.{all_by, is_name, name_byte}
 use Rattle.name.proofs.bytes.is_name.Goals as goal
 
-pub returns-then-not-is-name-byte : goal.returns-then-not-is-name-byte
+pub returns-then-not-is_name_byte : goal.returns-then-not-is_name_byte
 unfolding all_by is_name
-returns-then-not-is-name-byte c =
+returns-then-not-is_name_byte c =
     let e = at_drop_more (all_by name_byte) c.args.text.now c.loop-byte.byte-index 0 (omega arith) in
     grind (arith, nat_tests)
 

@@ -45,8 +45,8 @@ returns-then-place-bound g c =
     let w = subst (λ x. Walk m t keys k c.loop-link.bound x) c.in-Some.is (c.loop-link.invariant.1 keys h) in
     absurd (omega (arith, walk_below m t keys k c.loop-link.bound c.in-Some.place w)))
 
-pub returns-in-default : goal.returns-in-default
-returns-in-default g c =
+pub returns-in_default : goal.returns-in_default
+returns-in_default g c =
     let m = g.K.Key.model in
     let t = c.args.self.now in
     let k = c.args.key.now in
@@ -54,4 +54,4 @@ returns-in-default g c =
     gap_found m t k c.bucket-bucket.result b
     (λ keys h.
     walk_end m g.met.K.Key.laws t keys h k c.loop-link.bound
-    (subst (λ x. Walk m t keys k c.loop-link.bound x) c.in-default.is (c.loop-link.invariant.1 keys h)))
+    (subst (λ x. Walk m t keys k c.loop-link.bound x) c.in_default.is (c.loop-link.invariant.1 keys h)))
