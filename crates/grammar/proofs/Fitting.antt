@@ -1,10 +1,10 @@
 -- Rules go on fitting as declarations grow, and what fitting means.
-use Rattle.std.proofs.Common.{◌≡◌, ℕ, zero, suc, ◌+◌, ◌<◌, ◌≤◌, Bool, true, false, not, ◌&&◌, eqb, ltb, leb, List, [], ◌∷◌, ◌++◌, length, Some, None, Option, sym, refl, ap, ◌∙◌, subst, arith}
+use Rattle.std.proofs.Common.{◌≡◌, ℕ, zero, suc, ◌+◌, ◌≤◌, true, ltb, List, [], ◌∷◌, ◌++◌, length, Some, refl, ap, subst, arith}
 use Rattle.std.specs.List.{slice_get}
 use Rattle.std.proofs.lemmas.Bool.{false≢true, not-true, and_parts, and_from, ltb-true, leb-true, eqb-true, eqb-false}
 use Rattle.std.proofs.lemmas.Bool.Decides.{nat_tests}
 use Rattle.grammar.specs.Lists.{OperatorOf, FormOf, chain, base0, base1, base2, RuleOf, Lists, numbered, rule, Takes, FormFits, Declared}
-use Rattle.grammar.specs.Fits.{has_kids, takes, form_fits, rule_fits, rules_fit, kids_fit}
+use Rattle.grammar.specs.Fits.{takes, form_fits, rule_fits, rules_fit, kids_fit}
 
 takes_more : (ops : List OperatorOf) (x : OperatorOf) (o k : ℕ) → takes ops o k ≡ true → takes (ops ++ x ∷ []) o k ≡ true
 takes_more [] x o k h = absurd (false≢true h)

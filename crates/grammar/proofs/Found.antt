@@ -1,12 +1,12 @@
 -- What a look-up finds is declared, so the rules that are made of it fit.
-use Rattle.std.proofs.Common.{◌≡◌, ℕ, zero, suc, ◌+◌, ◌<◌, ◌≤◌, true, false, eqb, ltb, leb, List, [], ◌∷◌, length, Some, None, Ok, Err, Option, Result, unwrap_or, sym, refl, ap, ◌∙◌, subst, arith}
+use Rattle.std.proofs.Common.{◌≡◌, ℕ, zero, suc, ◌<◌, ◌≤◌, true, false, eqb, ltb, List, [], ◌∷◌, length, Some, None, Ok, Option, unwrap_or, sym, refl, ap, ◌∙◌, subst, arith}
 use Rattle.std.specs.List.{slice_get}
 use Rattle.std.specs.Option.{ok_or, option_map}
 use Rattle.std.proofs.lemmas.Bool.{and_from, lt-ltb, eq-eqb, not_from_false}
 use Rattle.std.proofs.lemmas.Bool.Decides.{nat_tests}
-use Rattle.grammar.specs.Drafting.{place_from, nonterminal_place, operator_place, find_nonterminal, find_operator, find_kid, kids_of, base_form, own_source}
+use Rattle.grammar.specs.Drafting.{find_nonterminal, find_operator, find_kid, kids_of, base_form}
 use Rattle.grammar.specs.Fits.{has_kids, takes, form_fits, rule_fits, kids_fit}
-use Rattle.grammar.specs.Lists.{Text, OperatorOf, FormOf, chain, base0, base1, base2, RuleOf, Lists}
+use Rattle.grammar.specs.Lists.{Text, OperatorOf, FormOf, chain, base0, base1, base2, Lists}
 use Rattle.grammar.specs.declared.refusal.Part.{Part}
 use Rattle.grammar.specs.declared.refusal.Part.TheVariants.{Left, Source, FirstKid, SecondKid}
 use Rattle.grammar.specs.declared.refusal.DraftRefusal.{DraftRefusal}

@@ -1,5 +1,5 @@
 -- Declarations are within the limits, and every rule's parts are declared and fit.
-use Rattle.std.proofs.Common.{◌≡◌, ℕ, true, map, length, vec_items, sym, ◌∙◌, subst, arith}
+use Rattle.std.proofs.Common.{◌≡◌, ℕ, true, map, vec_items, sym, ◌∙◌, subst, arith}
 use Rattle.std.proofs.lemmas.List.{length-map}
 use Rattle.grammar.specs.Fits.{rules_fit}
 use Rattle.grammar.specs.Lists.{Declared}

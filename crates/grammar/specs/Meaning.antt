@@ -1,5 +1,5 @@
 -- What a draft and a grammar mean: their lists.
-use Rattle.std.specs.Prelude.{ℕ, List, Ok, Err, vec_items, Option, Result}
+use Rattle.std.specs.Prelude.{ℕ, vec_items, Option, Result}
 use Rattle.std.specs.Option.{option_map}
 use Rattle.name.specs.Names.{text}
 use Rattle.name.specs.Outcomes.{map_ok}

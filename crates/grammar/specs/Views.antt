@@ -1,6 +1,5 @@
 -- What the parts of a grammar's code say, as the lists have it.
-use Rattle.std.specs.Prelude.{ℕ, List, map, Option}
-use Rattle.std.specs.Option.{option_map}
+use Rattle.std.specs.Prelude.{List, map}
 use Rattle.name.specs.Names.{text}
 use Rattle.grammar.specs.Lists.{Text, OperatorOf, FormOf, chain, base0, base1, base2, RuleOf, Lists}
 use Rattle.grammar.specs.declared.parts.Operator.{Operator}

@@ -32,7 +32,7 @@ impl Named for Nonterminal {
 
 // The place of the first that has the name.
 pub fn find<T: Named>(items: &[T], name: &Name) -> Option<usize>
-    ensures value { result ≡ place_from called 0 (text name.now) items.now }
+    ensures value { result ≡ place_from T.Named.called 0 (text name.now) items.now }
     ensures within { IfSome result (λ i. i < length items.now) }
 {
     for (i, x) in items.iter().enumerate() {

@@ -20,5 +20,5 @@ loop-n-init c = (refl, whole _ _ c.args.numbers.now 0 refl)
 
 pub loop-n-preserved : goal.loop-n-preserved
 loop-n-preserved c =
-    let one_more = more _ _ _ c.args.numbers.now c.loop-n.n-index c.loop-n-test.true c.loop-n.invariant.0 (search (rules, to_z-of_z, c.in-ok-line.ensures)) in
+    let one_more = more _ _ _ c.args.numbers.now c.loop-n.n-index c.loop-n-test.true c.loop-n.invariant.0 (search (rules, to_z-of_z, c.in_ok-line.ensures)) in
     (one_more, whole _ _ c.args.numbers.now (c.loop-n.n-index + 1) one_more)

@@ -2,9 +2,9 @@ use Rattle.std.proofs.Common.{rules}
 use Rattle.field.specs.Lines.{take_by}
 use Rattle.field.proofs.line_reader.LineReader.field.Goals as goal
 
-pub returns-in-err-part : goal.returns-in-err-part
+pub returns-in_err-part : goal.returns-in_err-part
 unfolding take_by
-returns-in-err-part c = search rules
+returns-in_err-part c = search rules
 
 pub returns : goal.returns
 unfolding take_by

@@ -9,7 +9,7 @@ pub returns : goal.returns
 unfolding to_come
 returns c =
     let all = take_rest c.args.self.now.line.now c.args.self.now.cursor in
-    let s = step c.args.self.now.mark c.args.self.now.line.now c.args.self.now.cursor c.place-of-n.result in
+    let s = step c.args.self.now.mark c.args.self.now.line.now c.args.self.now.cursor c.place_of-n.result in
     record { text = grind arith; place = grind arith; count = grind arith }
 
 pub returns-then-from-line : goal.returns-then-from-line

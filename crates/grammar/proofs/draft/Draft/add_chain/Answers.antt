@@ -6,9 +6,9 @@ use Rattle.grammar.specs.Views.{nonterminal_of}
 use Rattle.grammar.proofs.Found.{chain_fits}
 use Rattle.grammar.proofs.draft.Draft.add_chain.Goals as goal
 
-pub add-rule-requires : goal.add-rule-requires
-add-rule-requires g c κs h =
+pub add_rule-requires : goal.add_rule-requires
+add_rule-requires g c h =
     chain_fits (draft_lists c.args.self.now) (vec_len c.args.self.now.declarations.nonterminals)
     (length-map (vec_items c.args.self.now.declarations.nonterminals) nonterminal_of ∙ sym c.args.self.now.declarations.nonterminals.ok.0)
-    (text c.args.left) (text c.args.source) c.in-ok-left.left.0 c.in-ok-source.source.0 c.args.cost (text c.args.mnemonic)
-    c.in-ok-left.ensures c.in-ok-source.ensures h
+    (text c.args.left) (text c.args.source) c.in_ok-left.left.0 c.in_ok-source.source.0 c.args.cost (text c.args.mnemonic)
+    c.in_ok-left.ensures c.in_ok-source.ensures h

@@ -11,13 +11,13 @@ returns-then-at-ge256 g c =
     let n = length-map (vec_items c.args.self.now.declarations.rules) (rule_of {C = g.row.C.Denot}) in
     record { answer = grind (arith, nat_tests); after = grind (arith, nat_tests); priced = λ p. p }
 
-pub returns-then-is-own-source : goal.returns-then-is-own-source
-returns-then-is-own-source g c =
+pub returns-then-is_own_source : goal.returns-then-is_own_source
+returns-then-is_own_source g c =
     let n = length-map (vec_items c.args.self.now.declarations.rules) (rule_of {C = g.row.C.Denot}) in
     record { answer = grind (arith, nat_tests); after = grind (arith, nat_tests); priced = λ p. p }
 
-pub returns-then-is-unpriced : goal.returns-then-is-unpriced
-returns-then-is-unpriced g c =
+pub returns-then-is_unpriced : goal.returns-then-is_unpriced
+returns-then-is_unpriced g c =
     let n = length-map (vec_items c.args.self.now.declarations.rules) (rule_of {C = g.row.C.Denot}) in
     record { answer = grind (arith, nat_tests); after = grind (arith, nat_tests); priced = λ p. p }
 
@@ -27,5 +27,5 @@ returns g c =
     record {
       answer = grind (arith, nat_tests);
       after = grind (arith, nat_tests);
-      priced = priced_rule g.C.Cost.model _ _ (rule_of c.args.rule) (ap (λ (G : Lists g.row.C.Denot). G.rules) c.push-rule.ensures) (sym c.is-unpriced.ensures ∙ c.if-is-unpriced.false);
+      priced = priced_rule g.C.Cost.model _ _ (rule_of c.args.rule) (ap (λ (G : Lists g.row.C.Denot). G.rules) c.push_rule.ensures) (sym c.is_unpriced.ensures ∙ c.if-is_unpriced.false);
     }

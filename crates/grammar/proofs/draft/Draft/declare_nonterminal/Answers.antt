@@ -1,4 +1,4 @@
-use Rattle.std.proofs.Common.{vec_items, ap, ◌∙◌, arith}
+use Rattle.std.proofs.Common.{vec_items, ap, arith}
 use Rattle.std.proofs.lemmas.List.{length-map}
 use Rattle.std.proofs.lemmas.Bool.Decides.{nat_tests}
 use Rattle.grammar.specs.Lists.{Lists}
@@ -17,5 +17,5 @@ returns g c =
     record {
       answer = grind (arith, nat_tests);
       after = grind (arith, nat_tests);
-      priced = priced_same g.C.Cost.model _ _ (ap (λ (G : Lists g.row.C.Denot). G.rules) c.push-nonterminal.ensures);
+      priced = priced_same g.C.Cost.model _ _ (ap (λ (G : Lists g.row.C.Denot). G.rules) c.push_nonterminal.ensures);
     }
