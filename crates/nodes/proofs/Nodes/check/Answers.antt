@@ -14,16 +14,16 @@ pub returns-then-operators-operator : goal.returns-then-operators-operator
 returns-then-operators-operator c = record {
   answer = λ ns ls h.
       other_kids c.args.operators.now (most_of c.args.self.now) ns c.args.node.now c.index-operators-operator.result c.if-operator-operators.false
-      (λ e. c.if-operators-operator.true (e ∙ sym c.count-of.ensures));
+      (λ e. c.if-operators-operator.true (e ∙ sym c.count_of.ensures));
   right = checks_are_right;
 }
 
-pub returns-then-not-are-free : goal.returns-then-not-are-free
-returns-then-not-are-free c = record {
+pub returns-then-not-are_free : goal.returns-then-not-are_free
+returns-then-not-are_free c = record {
   answer = λ ns ls h.
       not_free c.args.operators.now (most_of c.args.self.now) ns c.args.node.now c.index-operators-operator.result c.if-operator-operators.false
-      (c.if-operators-operator.false ∙ c.count-of.ensures)
-      (sym (c.are-free.ensures ns ls h) ∙ c.if-not-are-free.true);
+      (c.if-operators-operator.false ∙ c.count_of.ensures)
+      (sym (c.are_free.ensures ns ls h) ∙ c.if-not-are_free.true);
   right = checks_are_right;
 }
 
@@ -31,8 +31,8 @@ pub returns-then-count-most : goal.returns-then-count-most
 returns-then-count-most c = record {
   answer = λ ns ls h.
       no_room c.args.operators.now (most_of c.args.self.now) ns c.args.node.now c.index-operators-operator.result c.if-operator-operators.false
-      (c.if-operators-operator.false ∙ c.count-of.ensures)
-      (sym (c.are-free.ensures ns ls h) ∙ c.if-not-are-free.false)
+      (c.if-operators-operator.false ∙ c.count_of.ensures)
+      (sym (c.are_free.ensures ns ls h) ∙ c.if-not-are_free.false)
       (omega (arith, c.count.ensures.means ns ls h, c.most.ensures));
   right = checks_are_right;
 }
@@ -41,8 +41,8 @@ pub returns : goal.returns
 returns c = record {
   answer = λ ns ls h.
       passes c.args.operators.now (most_of c.args.self.now) ns c.args.node.now c.index-operators-operator.result c.if-operator-operators.false
-      (c.if-operators-operator.false ∙ c.count-of.ensures)
-      (sym (c.are-free.ensures ns ls h) ∙ c.if-not-are-free.false)
+      (c.if-operators-operator.false ∙ c.count_of.ensures)
+      (sym (c.are_free.ensures ns ls h) ∙ c.if-not-are_free.false)
       (omega (arith, c.count.ensures.means ns ls h, c.most.ensures));
   right = checks_are_right;
 }

@@ -12,10 +12,10 @@ returns-then-place-most c = record {
   named = refl;
 }
 
-pub returns-then-not-all-below : goal.returns-then-not-all-below
-returns-then-not-all-below c = record {
+pub returns-then-not-all_below : goal.returns-then-not-all_below
+returns-then-not-all_below c = record {
   pushed = λ ns ls h.
-      pushed_none c.args.self.now ns ls c.args.node c.args.label h (inr (sym c.all_below.ensures ∙ c.if-not-all-below.true));
+      pushed_none c.args.self.now ns ls c.args.node c.args.label h (inr (sym c.all_below.ensures ∙ c.if-not-all_below.true));
   most = refl;
   length = refl;
   named = refl;
@@ -29,7 +29,7 @@ returns c =
     record {
       pushed = λ ns ls h.
           pushed_new v _ ns ls c.args.node c.args.label _ h (omega (arith, c.most.ensures))
-          (sym c.all_below.ensures ∙ c.if-not-all-below.false) c.store.ensures refl refl refl;
+          (sym c.all_below.ensures ∙ c.if-not-all_below.false) c.store.ensures refl refl refl;
       most = ap (min v.most) long;
       length = long;
       named = refl;

@@ -3,7 +3,7 @@ use Rattle.row.specs.Kept.{base_gives}
 use Rattle.row.specs.Views.{kept_of, no_chains, applied}
 use Rattle.row.proofs.Passing.{pass_takes, pass_skips, pass_all}
 use Rattle.row.proofs.bases.take_bases.Goals as goal
-use Rattle.row.proofs.bases.take_bases.Goals.{in-Some, in-default}
+use Rattle.row.proofs.bases.take_bases.Goals.{in-Some, in_default}
 
 pub loop-i-preserved : goal.loop-i-preserved
 loop-i-preserved g c =
@@ -15,9 +15,9 @@ loop-i-preserved g c =
     let was = map kept_of c.loop-i.work in
     let k = c.index-rules-i.result in
     let k-is = c.index-rules-i.is in
-    elim c.match-base-cost.branch [
-      | in-Some w ↦ ap (map kept_of) w.work-is ∙ pass_takes m f xs ks i k was (map kept_of w.keep-better.new.work) (w.in-Some.cost, 0) c.loop-i-test.true k-is c.loop-i.invariant (sym c.base-cost.ensures ∙ ap no_chains w.in-Some.is) w.keep-better.ensures.made
-      | in-default w ↦ ap (map kept_of) w.work-is ∙ pass_skips m f xs ks i k was c.loop-i-test.true k-is c.loop-i.invariant (sym c.base-cost.ensures ∙ ap no_chains w.in-default.is)
+    elim c.match-base_cost.branch [
+      | in-Some w ↦ ap (map kept_of) w.work-is ∙ pass_takes m f xs ks i k was (map kept_of w.keep_better.new.work) (w.in-Some.cost, 0) c.loop-i-test.true k-is c.loop-i.invariant (sym c.base_cost.ensures ∙ ap no_chains w.in-Some.is) w.keep_better.ensures.made
+      | in_default w ↦ ap (map kept_of) w.work-is ∙ pass_skips m f xs ks i k was c.loop-i-test.true k-is c.loop-i.invariant (sym c.base_cost.ensures ∙ ap no_chains w.in_default.is)
     ]
 
 pub returns : goal.returns

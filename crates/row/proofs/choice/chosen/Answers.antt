@@ -8,4 +8,4 @@ pub returns-in-None : goal.returns-in-None
 returns-in-None g c = choice_none g.row.K-Cost-Cost.model (map rule_of c.args.rules.now) (applied g.K.KidRow.costs c.args.kids.now) (map kept_of c.args.work.now) c.args.n (sym c.place.ensures ∙ ap kept_of c.in-None.is)
 
 pub returns-in-Some : goal.returns-in-Some
-returns-in-Some g c = choice_some g.row.K-Cost-Cost.model (map rule_of c.args.rules.now) (applied g.K.KidRow.costs c.args.kids.now) (map kept_of c.args.work.now) c.args.n (kept c.in-Some.best) c.first-rule.result (sym c.place.ensures ∙ ap kept_of c.in-Some.is) c.first-rule.ensures
+returns-in-Some g c = choice_some g.row.K-Cost-Cost.model (map rule_of c.args.rules.now) (applied g.K.KidRow.costs c.args.kids.now) (map kept_of c.args.work.now) c.args.n (kept c.in-Some.best) c.first_rule.result (sym c.place.ensures ∙ ap kept_of c.in-Some.is) c.first_rule.ensures

@@ -18,7 +18,7 @@ loop-n-preserved-in-Some g c =
     let n = c.loop-n.n - 1 in
     let after : c.loop-n.n ≡ suc n = omega arith in
     let y = c.in-Some.x in
-    ap Some (c.lesser-cost.ensures ∙ ap (lesser m y.cost) (c.loop-n.invariant ∙ ap (least_from m xs) after)) ∙ least_takes m xs n (kept y) (sym c.place.ensures ∙ ap kept_of c.in-Some.is)
+    ap Some (c.lesser_cost.ensures ∙ ap (lesser m y.cost) (c.loop-n.invariant ∙ ap (least_from m xs) after)) ∙ least_takes m xs n (kept y) (sym c.place.ensures ∙ ap kept_of c.in-Some.is)
 
 pub loop-n-preserved : goal.loop-n-preserved
 loop-n-preserved g c =
@@ -26,4 +26,4 @@ loop-n-preserved g c =
     let xs = map kept_of c.args.work.now in
     let n = c.loop-n.n - 1 in
     let after : c.loop-n.n ≡ suc n = omega arith in
-    c.loop-n.invariant ∙ ap (least_from m xs) after ∙ least_skips m xs n (sym c.place.ensures ∙ ap kept_of c.in-default.is)
+    c.loop-n.invariant ∙ ap (least_from m xs) after ∙ least_skips m xs n (sym c.place.ensures ∙ ap kept_of c.in_default.is)

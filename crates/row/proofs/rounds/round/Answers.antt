@@ -3,7 +3,7 @@ use Rattle.row.specs.Kept.{chain_gives}
 use Rattle.row.specs.Views.{kept_of}
 use Rattle.row.proofs.Passing.{pass_takes, pass_skips, pass_all}
 use Rattle.row.proofs.rounds.round.Goals as goal
-use Rattle.row.proofs.rounds.round.Goals.{in-Some+then-keep-better, in-Some+else-keep-better, in-default}
+use Rattle.row.proofs.rounds.round.Goals.{in-Some+then-keep-better, in-Some+else-keep-better, in_default}
 
 pub loop-i-preserved : goal.loop-i-preserved
 loop-i-preserved g c =
@@ -15,10 +15,10 @@ loop-i-preserved g c =
     let was = map kept_of c.loop-i.work in
     let k = c.index-rules-i.result in
     let k-is = c.index-rules-i.is in
-    elim c.match-chain-rank.branch [
-      | in-Some+then-keep-better w ↦ (ap (map kept_of) w.work-is ∙ pass_takes m f xs ks i k was (map kept_of w.keep-better.new.work) w.in-Some.rank c.loop-i-test.true k-is c.loop-i.invariant.0 (sym c.chain-rank.ensures ∙ w.in-Some.is) w.keep-better.ensures.made, λ e. absurd (true≢false (sym w.changed-is ∙ e)))
-      | in-Some+else-keep-better w ↦ (ap (map kept_of) w.work-is ∙ pass_takes m f xs ks i k was (map kept_of w.keep-better.new.work) w.in-Some.rank c.loop-i-test.true k-is c.loop-i.invariant.0 (sym c.chain-rank.ensures ∙ w.in-Some.is) w.keep-better.ensures.made, λ e. w.work-is ∙ w.keep-better.ensures.told w.if-keep-better.false ∙ c.loop-i.invariant.1 (sym w.changed-is ∙ e))
-      | in-default w ↦ (ap (map kept_of) w.work-is ∙ pass_skips m f xs ks i k was c.loop-i-test.true k-is c.loop-i.invariant.0 (sym c.chain-rank.ensures ∙ w.in-default.is), λ e. w.work-is ∙ c.loop-i.invariant.1 (sym w.changed-is ∙ e))
+    elim c.match-chain_rank.branch [
+      | in-Some+then-keep-better w ↦ (ap (map kept_of) w.work-is ∙ pass_takes m f xs ks i k was (map kept_of w.keep_better.new.work) w.in-Some.rank c.loop-i-test.true k-is c.loop-i.invariant.0 (sym c.chain_rank.ensures ∙ w.in-Some.is) w.keep_better.ensures.made, λ e. absurd (true≢false (sym w.changed-is ∙ e)))
+      | in-Some+else-keep-better w ↦ (ap (map kept_of) w.work-is ∙ pass_takes m f xs ks i k was (map kept_of w.keep_better.new.work) w.in-Some.rank c.loop-i-test.true k-is c.loop-i.invariant.0 (sym c.chain_rank.ensures ∙ w.in-Some.is) w.keep_better.ensures.made, λ e. w.work-is ∙ w.keep_better.ensures.told w.if-keep_better.false ∙ c.loop-i.invariant.1 (sym w.changed-is ∙ e))
+      | in_default w ↦ (ap (map kept_of) w.work-is ∙ pass_skips m f xs ks i k was c.loop-i-test.true k-is c.loop-i.invariant.0 (sym c.chain_rank.ensures ∙ w.in_default.is), λ e. w.work-is ∙ c.loop-i.invariant.1 (sym w.changed-is ∙ e))
     ]
 
 pub returns : goal.returns

@@ -10,12 +10,12 @@ returns-then-n-work g c = record {
 
 pub returns-then-better : goal.returns-then-better
 returns-then-better g c = record {
-  made = (let h : c.args.n < length c.args.work.now = omega arith in keep_takes g.row.C-Cost.model c.args.work.now c.args.n c.args.new c.index-work-n.result c.is-better-better.result h c.is-better-better.ensures c.if-better.true);
+  made = (let h : c.args.n < length c.args.work.now = omega arith in keep_takes g.row.C-Cost.model c.args.work.now c.args.n c.args.new c.index-work-n.result c.is_better-better.result h c.is_better-better.ensures c.if-better.true);
   told = λ e. absurd (true≢false (sym c.if-better.true ∙ e));
 }
 
 pub returns-else-better : goal.returns-else-better
 returns-else-better g c = record {
-  made = (let h : c.args.n < length c.args.work.now = omega arith in keep_stays g.row.C-Cost.model c.args.work.now c.args.n c.args.new c.index-work-n.result c.is-better-better.result h c.is-better-better.ensures c.if-better.false);
+  made = (let h : c.args.n < length c.args.work.now = omega arith in keep_stays g.row.C-Cost.model c.args.work.now c.args.n c.args.new c.index-work-n.result c.is_better-better.result h c.is_better-better.ensures c.if-better.false);
   told = λ _. refl;
 }
