@@ -23,7 +23,7 @@ pub(crate) fn take_bases<K: KidRow>(
     kids: &Kids<K>,
     work: &mut [Option<Work<K::Cost>>],
 )
-    ensures { map kept_of work.new ≡ pass K.Cost.Cost.model (base_gives K.Cost.Cost.model (applied costs kids.now)) (map kept_of work.old) 1 (map rule_of rules.now) }
+    ensures { map kept_of work.new ≡ pass K.Cost.Cost.model (base_gives K.Cost.Cost.model (applied K.KidRow.costs kids.now)) (map kept_of work.old) 1 (map rule_of rules.now) }
 {
     for (i, rule) in rules.iter().enumerate() {
         if let Some(cost) = base_cost(rule, kids) {

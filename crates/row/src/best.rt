@@ -18,7 +18,7 @@ pub fn best_into<K: KidRow>(
     kids: &Kids<K>,
     work: &mut [Option<Work<K::Cost>>],
 )
-    ensures { BestAre K.Cost.Cost.model (map rule_of rules.now) (length work.old) (applied costs kids.now) (map kept_of work.new) }
+    ensures { BestAre K.Cost.Cost.model (map rule_of rules.now) (length work.old) (applied K.KidRow.costs kids.now) (map kept_of work.new) }
 {
     ranks_into(rules, kids, work);
     choose_rules(rules, kids, work);
@@ -30,7 +30,7 @@ pub fn row_into<K: KidRow>(
     kids: &Kids<K>,
     work: &mut [Option<Work<K::Cost>>],
 )
-    ensures { RowIs K.Cost.Cost.model (map rule_of rules.now) (length work.old) (applied costs kids.now) (map kept_of work.new) }
+    ensures { RowIs K.Cost.Cost.model (map rule_of rules.now) (length work.old) (applied K.KidRow.costs kids.now) (map kept_of work.new) }
 {
     best_into(rules, kids, work);
     lower_to_least(work);

@@ -27,7 +27,7 @@ fn rule_rank<K: KidRow>(
     kids: &Kids<K>,
     work: &[Option<Work<K::Cost>>],
 ) -> Option<(K::Cost, usize)>
-    ensures { Few (ranks_in work.now) → result ≡ offer K.Cost.Cost.model (applied costs kids.now) (ranks_in work.now) rule.now.cost (form_of rule.now.form) }
+    ensures { Few (ranks_in work.now) → result ≡ offer K.Cost.Cost.model (applied K.KidRow.costs kids.now) (ranks_in work.now) rule.now.cost (form_of rule.now.form) }
 {
     match base_cost(rule, kids) {
         Some(cost) => Some((cost, 0)),
@@ -43,7 +43,7 @@ fn is_choice<K: KidRow>(
     n: usize,
     best: &Work<K::Cost>,
 ) -> bool
-    ensures { Few (ranks_in work.now) → result ≡ offers K.Cost.Cost.model (applied costs kids.now) (ranks_in work.now) n (best.now.cost, best.now.chains) (rule_of rule.now) }
+    ensures { Few (ranks_in work.now) → result ≡ offers K.Cost.Cost.model (applied K.KidRow.costs kids.now) (ranks_in work.now) n (best.now.cost, best.now.chains) (rule_of rule.now) }
 {
     if rule.left.0 == n {
         is_rank_of(&rule_rank(rule, kids, work), best)
@@ -60,7 +60,7 @@ fn first_rule<K: KidRow>(
     n: usize,
     best: &Work<K::Cost>,
 ) -> usize
-    ensures { Few (ranks_in work.now) → result ≡ first_from (offers K.Cost.Cost.model (applied costs kids.now) (ranks_in work.now) n (best.now.cost, best.now.chains)) 1 (map rule_of rules.now) }
+    ensures { Few (ranks_in work.now) → result ≡ first_from (offers K.Cost.Cost.model (applied K.KidRow.costs kids.now) (ranks_in work.now) n (best.now.cost, best.now.chains)) 1 (map rule_of rules.now) }
 {
     let mut first = None;
     for (i, rule) in rules.iter().enumerate() {
@@ -77,7 +77,7 @@ fn chosen<K: KidRow>(
     work: &[Option<Work<K::Cost>>],
     n: usize,
 ) -> Option<Work<K::Cost>>
-    ensures { ChosenAt K.Cost.Cost.model (map rule_of rules.now) (applied costs kids.now) (map kept_of work.now) n (kept_of result) }
+    ensures { ChosenAt K.Cost.Cost.model (map rule_of rules.now) (applied K.KidRow.costs kids.now) (map kept_of work.now) n (kept_of result) }
 {
     match place(work, n) {
         None => None,
@@ -95,7 +95,7 @@ pub(crate) fn choose_rules<K: KidRow>(
     kids: &Kids<K>,
     work: &mut [Option<Work<K::Cost>>],
 )
-    ensures { Chosen K.Cost.Cost.model (map rule_of rules.now) (applied costs kids.now) (map kept_of work.old) (map kept_of work.new) }
+    ensures { Chosen K.Cost.Cost.model (map rule_of rules.now) (applied K.KidRow.costs kids.now) (map kept_of work.old) (map kept_of work.new) }
 {
     for n in 0..work.len() {
         work[n] = chosen(rules, kids, work, n);

@@ -29,7 +29,7 @@ pub enum Kids<'a, K> {
 
 // A base rule of this cost over one kid.
 fn over_one<K: KidRow>(cost: K::Cost, row: &K, kid: usize) -> Option<K::Cost>
-    ensures { no_chains result ≡ with1 K.Cost.Cost.model cost (no_chains (at (costs row.now) kid)) }
+    ensures { no_chains result ≡ with1 K.Cost.Cost.model cost (no_chains (at (K.KidRow.costs row.now) kid)) }
 {
     match row.cost_at(kid) {
         Some(x) => Some(cost.sum(x)),
@@ -45,7 +45,7 @@ fn over_two<K: KidRow>(
     second: &K,
     right: usize,
 ) -> Option<K::Cost>
-    ensures { no_chains result ≡ with2 K.Cost.Cost.model cost (no_chains (at (costs first.now) left)) (no_chains (at (costs second.now) right)) }
+    ensures { no_chains result ≡ with2 K.Cost.Cost.model cost (no_chains (at (K.KidRow.costs first.now) left)) (no_chains (at (K.KidRow.costs second.now) right)) }
 {
     match (first.cost_at(left), second.cost_at(right)) {
         (Some(x), Some(y)) => Some(cost.sum(x).sum(y)),
@@ -55,7 +55,7 @@ fn over_two<K: KidRow>(
 
 // What a rule costs over its kids' costs: none where it is no base rule of the operator, or a kid has no cost.
 pub(crate) fn base_cost<K: KidRow>(rule: &Rule<K::Cost>, kids: &Kids<K>) -> Option<K::Cost>
-    ensures { no_chains result ≡ base_offer K.Cost.Cost.model (applied costs kids.now) rule.now.cost (form_of rule.now.form) }
+    ensures { no_chains result ≡ base_offer K.Cost.Cost.model (applied K.KidRow.costs kids.now) rule.now.cost (form_of rule.now.form) }
 {
     match (rule.form, kids) {
         (Form::Leaf { operator }, Kids::Leaf(o)) if operator.0 == *o => Some(rule.cost),

@@ -17,7 +17,7 @@ pub fn ranks_into<K: KidRow>(
     kids: &Kids<K>,
     work: &mut [Option<Work<K::Cost>>],
 )
-    ensures { RanksAre K.Cost.Cost.model (map rule_of rules.now) (length work.old) (applied costs kids.now) (map kept_of work.new) }
+    ensures { RanksAre K.Cost.Cost.model (map rule_of rules.now) (length work.old) (applied K.KidRow.costs kids.now) (map kept_of work.new) }
 {
     forget(work);
     take_bases(rules, kids, work);

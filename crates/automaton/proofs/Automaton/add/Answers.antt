@@ -17,14 +17,14 @@ returns-in-err-check g c =
     record {
       adds = λ h l.
           let f = c.in-err-check.field-0.0 in
-          adds_unfit g.met.C.Cost.laws a h l (node_of c.args.node) f (check_some a h c.args.node _ ops f (c.in-err-check.ensures.answer (open_nodes h) (open_labels g.row.C-Cost.model (grammar_of a) h) l.stands)) (add_answer c.from-residual.result) (ap add_answer e.1 ∙ ap (λ y. add_answer (Err y)) e.2);
+          adds_unfit g.met.C.Cost.laws a h l (node_of c.args.node) f (check_some a h c.args.node _ ops f (c.in-err-check.ensures.answer (open_nodes h) (open_labels g.C.Cost.model (grammar_of a) h) l.stands)) (add_answer c.from-residual.result) (ap add_answer e.1 ∙ ap (λ y. add_answer (Err y)) e.2);
       fixed = record { grammar = refl; nodes = refl; keys = refl; rows = refl };
     }
 
 pub returns-in-err-label : goal.returns-in-err-label
 returns-in-err-label g c =
     let laws = g.met.C.Cost.laws in
-    let m = g.row.C-Cost.model in
+    let m = g.C.Cost.model in
     let a = c.args.self.now in
     let lists = c.declarations-declarations.ensures.lists in
     let ops = c.operators.ensures ∙ ap (λ (z : Lists g.row.C.Denot). z.operators) lists in
@@ -42,7 +42,7 @@ returns-in-err-label g c =
 pub returns-in-err-number : goal.returns-in-err-number
 returns-in-err-number g c =
     let laws = g.met.C.Cost.laws in
-    let m = g.row.C-Cost.model in
+    let m = g.C.Cost.model in
     let a = c.args.self.now in
     let ops = c.operators.ensures ∙ ap (λ (z : Lists g.row.C.Denot). z.operators) c.declarations-declarations.ensures.lists in
     let x = node_of c.args.node in
@@ -57,7 +57,7 @@ returns-in-err-number g c =
 pub returns : goal.returns
 returns g c =
     let laws = g.met.C.Cost.laws in
-    let m = g.row.C-Cost.model in
+    let m = g.C.Cost.model in
     let a = c.args.self.now in
     let lists = c.declarations-declarations.ensures.lists in
     let ops = c.operators.ensures ∙ ap (λ (z : Lists g.row.C.Denot). z.operators) lists in

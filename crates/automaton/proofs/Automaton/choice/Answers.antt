@@ -17,7 +17,7 @@ no_tree f (Some t) e = absurd (none_some (f t) e)
 
 pub returns-in-Some : goal.returns-in-Some
 returns-in-Some g c h l =
-    let m = g.row.C-Cost.model in
+    let m = g.C.Cost.model in
     let G = grammar_of c.args.self.now in
     let i = c.args.node.0 in
     let read = at_map (option_map (label m G (accepted h))) refl (open_trees h) i in
@@ -26,7 +26,7 @@ returns-in-Some g c h l =
 
 pub returns-in-None : goal.returns-in-None
 returns-in-None g c h l =
-    let m = g.row.C-Cost.model in
+    let m = g.C.Cost.model in
     let G = grammar_of c.args.self.now in
     let i = c.args.node.0 in
     let read = at_map (option_map (label m G (accepted h))) refl (open_trees h) i in

@@ -7,7 +7,7 @@ use Rattle.plain.proofs.Plain.add.Goals as goal
 
 pub returns-in-err-check : goal.returns-in-err-check
 returns-in-err-check g c =
-    let m = g.row.C-Cost.model in
+    let m = g.C.Cost.model in
     let p = c.args.self.now in
     let ops = c.operators.ensures ∙ ap (λ (z : Lists g.row.C.Denot). z.operators) c.declarations-declarations.ensures.lists in
     let e = err_from_is_err_and c.from-residual.result c.from-residual.ensures.1 in
@@ -22,7 +22,7 @@ returns-in-err-check g c =
 
 pub returns-in-err-number : goal.returns-in-err-number
 returns-in-err-number g c =
-    let m = g.row.C-Cost.model in
+    let m = g.C.Cost.model in
     let p = c.args.self.now in
     let ops = c.operators.ensures ∙ ap (λ (z : Lists g.row.C.Denot). z.operators) c.declarations-declarations.ensures.lists in
     record {
@@ -38,7 +38,7 @@ returns-in-err-number g c =
 
 pub returns : goal.returns
 returns g c =
-    let m = g.row.C-Cost.model in
+    let m = g.C.Cost.model in
     let p = c.args.self.now in
     let lists = c.declarations-declarations.ensures.lists in
     let ops = c.operators.ensures ∙ ap (λ (z : Lists g.row.C.Denot). z.operators) lists in

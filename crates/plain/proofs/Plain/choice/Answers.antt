@@ -5,15 +5,15 @@ use Rattle.plain.proofs.Plain.choice.Goals as goal
 
 pub returns-then-node-count : goal.returns-then-node-count
 returns-then-node-count g c ns k =
-    choice_not g.row.C-Cost.model c.args.self.now ns k c.args.node.0 c.args.nonterminal.0
+    choice_not g.C.Cost.model c.args.self.now ns k c.args.node.0 c.args.nonterminal.0
     (omega (arith, c.count-count.ensures ns k))
 
 pub returns-then-node-count-2 : goal.returns-then-node-count-2
 returns-then-node-count-2 g c ns k =
-    choice_newest g.row.C-Cost.model c.args.self.now ns k c.args.node.0 c.args.nonterminal.0 (rule_number c.rule-at.result)
+    choice_newest g.C.Cost.model c.args.self.now ns k c.args.node.0 c.args.nonterminal.0 (rule_number c.rule-at.result)
     (omega (arith, c.count-count.ensures ns k)) c.rule-at.ensures
 
 pub returns-else-node-count-2 : goal.returns-else-node-count-2
 returns-else-node-count-2 g c ns k =
-    choice_earlier g.row.C-Cost.model c.args.self.now ns k c.args.node.0 c.args.nonterminal.0 (rule_number c.kept-rule.result) _ refl
+    choice_earlier g.C.Cost.model c.args.self.now ns k c.args.node.0 c.args.nonterminal.0 (rule_number c.kept-rule.result) _ refl
     (omega (arith, c.count-count.ensures ns k)) c.kept-rule.ensures

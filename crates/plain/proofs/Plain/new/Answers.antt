@@ -44,7 +44,7 @@ returns g c =
           (omega (arith, c.if-rows-most.false)),
       refl,
       most,
-      λ sealed. keeps_none g.row.C-Cost.model _ sealed (omega (arith, c.if-most-gt2048.false)) c.new.ensures.stands (c.split-at-mut-newest.ensures.front-len ∙ wide)
+      λ sealed. keeps_none g.C.Cost.model _ sealed (omega (arith, c.if-most-gt2048.false)) c.new.ensures.stands (c.split-at-mut-newest.ensures.front-len ∙ wide)
           (subst (λ z. z * count (grammar_lists c.args.grammar.now) ≤ length c.split-at-mut-newest.result.0.now + length c.split-at-mut-newest.result.1.now) (sym most)
           (omega (arith, c.if-rows-most.false, c.split-at-mut-newest.ensures.front-len, c.split-at-mut-newest.ensures.back_len))),
     )

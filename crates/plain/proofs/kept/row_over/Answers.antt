@@ -7,7 +7,7 @@ use Rattle.plain.proofs.kept.row_over.Goals as goal
 
 pub returns : goal.returns
 returns g c k G d r e =
-    let m = g.row.C-Cost.model in
+    let m = g.C.Cost.model in
     let rows = c.args.rows.now in
     let n = length c.args.row.now in
     let node = c.args.node.now in

@@ -7,7 +7,7 @@ use Rattle.row.proofs.bases.take_bases.Goals.{in-Some, in_default}
 
 pub loop-i-preserved : goal.loop-i-preserved
 loop-i-preserved g c =
-    let m = g.row.K-Cost-Cost.model in
+    let m = g.K.Cost.Cost.model in
     let f = base_gives m (applied g.K.KidRow.costs c.args.kids.now) in
     let ks = c.args.rules.now in
     let i = c.loop-i.i in
@@ -22,7 +22,7 @@ loop-i-preserved g c =
 
 pub returns : goal.returns
 returns g c =
-    let m = g.row.K-Cost-Cost.model in
+    let m = g.K.Cost.Cost.model in
     let f = base_gives m (applied g.K.KidRow.costs c.args.kids.now) in
     let e : c.loop-i.i ≡ length c.args.rules.now = omega arith in
     pass_all m f (map kept_of c.args.work.now) (map kept_of c.loop-i.work) c.args.rules.now c.loop-i.i e c.loop-i.invariant

@@ -7,7 +7,7 @@ use Rattle.row.proofs.choice.choose_rules.Goals as goal
 
 pub loop-n-preserved : goal.loop-n-preserved
 loop-n-preserved g c =
-    let m = g.row.K-Cost-Cost.model in
+    let m = g.K.Cost.Cost.model in
     let ρs = map rule_of c.args.rules.now in
     let s = applied g.K.KidRow.costs c.args.kids.now in
     let xs = map kept_of c.args.work.now in
@@ -20,4 +20,4 @@ pub returns : goal.returns
 returns g c =
     let long = length-map c.args.work.now kept_of in
     let h : length (map kept_of c.args.work.now) ≤ c.loop-n.n = omega arith in
-    choose_all g.row.K-Cost-Cost.model (map rule_of c.args.rules.now) (applied g.K.KidRow.costs c.args.kids.now) (map kept_of c.args.work.now) (map kept_of c.loop-n.work) c.loop-n.n h c.loop-n.invariant
+    choose_all g.K.Cost.Cost.model (map rule_of c.args.rules.now) (applied g.K.KidRow.costs c.args.kids.now) (map kept_of c.args.work.now) (map kept_of c.loop-n.work) c.loop-n.n h c.loop-n.invariant

@@ -10,7 +10,7 @@ use Rattle.row.proofs.choice.first_rule.Goals as goal
 -- what was found stays, and else the rule is found that is a choice
 pub loop-i-preserved : goal.loop-i-preserved
 loop-i-preserved g c few =
-    let f = offers g.row.K-Cost-Cost.model (applied g.K.KidRow.costs c.args.kids.now) (ranks_in c.args.work.now) c.args.n (c.args.best.now.cost, c.args.best.now.chains) in
+    let f = offers g.K.Cost.Cost.model (applied g.K.KidRow.costs c.args.kids.now) (ranks_in c.args.work.now) c.args.n (c.args.best.now.cost, c.args.best.now.chains) in
     let i = c.loop-i.i in
     let b = c.is_choice.result in
     let new = c.then_some-found.result in

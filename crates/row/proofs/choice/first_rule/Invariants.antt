@@ -7,4 +7,4 @@ use Rattle.row.proofs.Firsts.{first_found}
 use Rattle.row.proofs.choice.first_rule.Given as goal
 
 abbrev pub invariant-loop-i : goal.invariant-loop-i
-invariant-loop-i g l = Few (ranks_in l.work) → l.first ≡ first_found (offers g.row.K-Cost-Cost.model (applied g.K.KidRow.costs l.kids) (ranks_in l.work) l.n (l.best.cost, l.best.chains)) 1 (map rule_of (take l.i l.rules))
+invariant-loop-i g l = Few (ranks_in l.work) → l.first ≡ first_found (offers g.K.Cost.Cost.model (applied g.K.KidRow.costs l.kids) (ranks_in l.work) l.n (l.best.cost, l.best.chains)) 1 (map rule_of (take l.i l.rules))

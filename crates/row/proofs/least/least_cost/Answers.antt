@@ -9,11 +9,11 @@ pub loop-n-init : goal.loop-n-init
 loop-n-init g c =
     let long = length-map c.args.work.now kept_of in
     let h : length (map kept_of c.args.work.now) ≤ length c.args.work.now = omega arith in
-    least_past g.row.C-Cost.model (map kept_of c.args.work.now) (length c.args.work.now) h
+    least_past g.C.Cost.model (map kept_of c.args.work.now) (length c.args.work.now) h
 
 pub loop-n-preserved-in-Some : goal.loop-n-preserved-in-Some
 loop-n-preserved-in-Some g c =
-    let m = g.row.C-Cost.model in
+    let m = g.C.Cost.model in
     let xs = map kept_of c.args.work.now in
     let n = c.loop-n.n - 1 in
     let after : c.loop-n.n ≡ suc n = omega arith in
@@ -22,7 +22,7 @@ loop-n-preserved-in-Some g c =
 
 pub loop-n-preserved : goal.loop-n-preserved
 loop-n-preserved g c =
-    let m = g.row.C-Cost.model in
+    let m = g.C.Cost.model in
     let xs = map kept_of c.args.work.now in
     let n = c.loop-n.n - 1 in
     let after : c.loop-n.n ≡ suc n = omega arith in

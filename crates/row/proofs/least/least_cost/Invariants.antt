@@ -4,4 +4,4 @@ use Rattle.row.proofs.Lowering.{least_from}
 use Rattle.row.proofs.least.least_cost.Given as goal
 
 abbrev pub invariant-loop-n : goal.invariant-loop-n
-invariant-loop-n g l = l.least ≡ least_from g.row.C-Cost.model (map kept_of l.work) l.n
+invariant-loop-n g l = l.least ≡ least_from g.C.Cost.model (map kept_of l.work) l.n

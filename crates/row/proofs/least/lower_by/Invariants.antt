@@ -4,4 +4,4 @@ use Rattle.row.proofs.Lowering.{lowered_to}
 use Rattle.row.proofs.least.lower_by.Given as goal
 
 abbrev pub invariant-loop-n : goal.invariant-loop-n
-invariant-loop-n g l = map kept_of l.work ≡ lowered_to g.row.C-Cost.model l.least (map kept_of l.initial.work) l.n
+invariant-loop-n g l = map kept_of l.work ≡ lowered_to g.C.Cost.model l.least (map kept_of l.initial.work) l.n

@@ -7,7 +7,7 @@ use Rattle.row.proofs.rounds.run_rounds.Goals as goal
 
 pub rounds-preserved : goal.rounds-preserved
 rounds-preserved g c =
-    let f = round_of g.row.C-Cost.model (map rule_of c.args.rules.now) in
+    let f = round_of g.C.Cost.model (map rule_of c.args.rules.now) in
     let x = map kept_of c.args.work.now in
     let j = c.rounds.counter - 1 in
     let e : j + 1 ≡ c.rounds.counter + 1 - 1 = omega arith in
@@ -16,7 +16,7 @@ rounds-preserved g c =
 
 pub returns-then-not-round : goal.returns-then-not-round
 returns-then-not-round g c =
-    let f = round_of g.row.C-Cost.model (map rule_of c.args.rules.now) in
+    let f = round_of g.C.Cost.model (map rule_of c.args.rules.now) in
     let x = map kept_of c.args.work.now in
     let y = map kept_of c.rounds.work in
     let same = ap (map kept_of) (c.round.ensures.told c.if-not-round.true) in

@@ -10,7 +10,7 @@ use Rattle.rows.proofs.walks.end_of.Goals as goal
 
 pub returns-in-None : goal.returns-in-None
 returns-in-None g c es h =
-    let m = g.row.C-Cost.model in
+    let m = g.C.Cost.model in
     let ws = c.args.row.now in
     let i = c.loop-work.work-index in
     let x = c.work-item.result in
@@ -19,7 +19,7 @@ returns-in-None g c es h =
 
 pub loop-work-preserved : goal.loop-work-preserved
 loop-work-preserved g c es h =
-    let m = g.row.C-Cost.model in
+    let m = g.C.Cost.model in
     let ws = c.args.row.now in
     let i = c.loop-work.work-index in
     let x = c.work-item.result in
@@ -32,4 +32,4 @@ pub returns : goal.returns
 returns g c es h =
     let ws = c.args.row.now in
     let all : length (row_in ws) ≤ c.loop-work.work-index = (let e = row_long ws in omega arith) in
-    sym (ap (walk g.row.C-Cost.model es None) (sym (take_all c.loop-work.work-index (row_in ws) all)) ∙ c.loop-work.invariant es h)
+    sym (ap (walk g.C.Cost.model es None) (sym (take_all c.loop-work.work-index (row_in ws) all)) ∙ c.loop-work.invariant es h)

@@ -7,4 +7,4 @@ use Rattle.entries.specs.Walks.{walk}
 use Rattle.rows.proofs.walks.end_of.Given as goal
 
 abbrev pub invariant-loop-work : goal.invariant-loop-work
-invariant-loop-work g l = (es : List (Entry g.row.C.Denot)) → Means (entry_key g.row.C-Cost.model) l.entries es → walk g.row.C-Cost.model es None (take l.work-index (row_in l.row)) ≡ Some l.end
+invariant-loop-work g l = (es : List (Entry g.row.C.Denot)) → Means (entry_key g.C.Cost.model) l.entries es → walk g.C.Cost.model es None (take l.work-index (row_in l.row)) ≡ Some l.end

@@ -37,7 +37,7 @@ loop-work-preserved g c = (
       let item = row_item ws i x c.loop-work-test.true c.work-item.is in
       let p = c.in-ok-place.place in
       let small = laid_small l c.loop-work.entries c.put.new.self es (row_in ws) i c.loop-work.end (cost_entry (kept_of x)) c.entry_after.result inside room laid item c.entry_after.ensures p c.in-ok-place.ensures.puts in
-      subst (Laid g.row.C-Cost.model c.put.new.self es (take (i + 1) (row_in ws))) (sym (c.link-end.ensures small)) (laid_more l c.loop-work.entries c.put.new.self es (row_in ws) i c.loop-work.end (cost_entry (kept_of x)) c.entry_after.result inside room laid item c.entry_after.ensures p c.in-ok-place.ensures.puts),
+      subst (Laid g.C.Cost.model c.put.new.self es (take (i + 1) (row_in ws))) (sym (c.link-end.ensures small)) (laid_more l c.loop-work.entries c.put.new.self es (row_in ws) i c.loop-work.end (cost_entry (kept_of x)) c.entry_after.result inside room laid item c.entry_after.ensures p c.in-ok-place.ensures.puts),
 )
 
 pub returns : goal.returns
@@ -45,7 +45,7 @@ returns g c = record {
   lays = λ es h r.
       let ws = c.args.row.now in
       let all : length (row_in ws) ≤ c.loop-work.work-index = (let e = row_long ws in omega arith) in
-      lays g.row.C-Cost.model c.loop-work.entries es (row_in ws) c.loop-work.end (subst (λ z. Laid g.row.C-Cost.model c.loop-work.entries es z c.loop-work.end) (take_all c.loop-work.work-index (row_in ws) all) (c.loop-work.invariant.2 es h r));
+      lays g.C.Cost.model c.loop-work.entries es (row_in ws) c.loop-work.end (subst (λ z. Laid g.C.Cost.model c.loop-work.entries es z c.loop-work.end) (take_all c.loop-work.work-index (row_in ws) all) (c.loop-work.invariant.2 es h r));
   length = c.loop-work.invariant.0;
   named = c.loop-work.invariant.1;
 }

@@ -10,4 +10,4 @@ abbrev pub invariant-loop-work : goal.invariant-loop-work
 invariant-loop-work g l =
     (length (slots_of l.entries) ≡ length (slots_of l.initial.entries))
     × (l.entries.slots.ghost_name ≡ l.initial.entries.slots.ghost_name)
-    × ((es : List (Entry g.row.C.Denot)) → Means (entry_key g.row.C-Cost.model) l.initial.entries es → length es + length l.row ≤ room_of l.initial.entries → Laid g.row.C-Cost.model l.entries es (take l.work-index (row_in l.row)) l.end)
+    × ((es : List (Entry g.row.C.Denot)) → Means (entry_key g.C.Cost.model) l.initial.entries es → length es + length l.row ≤ room_of l.initial.entries → Laid g.C.Cost.model l.entries es (take l.work-index (row_in l.row)) l.end)

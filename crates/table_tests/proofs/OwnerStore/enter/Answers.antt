@@ -9,7 +9,7 @@ pub returns : goal.returns
 returns g c = (
   λ ns h.
       let e = c.enter.ensures.enters ns h.0 h.1 in
-      entered (Keeps g.row.C-Cost.model c.enter.new.self) _ c.enter.result
+      entered (Keeps g.C.Cost.model c.enter.new.self) _ c.enter.result
       (room_of c.args.self.now.nodes) ns c.args.key e.answer (_, e.holds),
   c.enter.ensures.room,
 )

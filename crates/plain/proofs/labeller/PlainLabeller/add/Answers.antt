@@ -5,5 +5,5 @@ use Rattle.plain.proofs.labeller.PlainLabeller.add.Goals as goal
 
 pub returns : goal.returns
 returns g c μ h =
-    plain_adds g.row.C-Cost.model c.args.self.now μ h c.add.new.self c.add.ensures.grammar c.add.ensures.most (node_of c.args.node)
+    plain_adds g.C.Cost.model c.args.self.now μ h c.add.new.self c.add.ensures.grammar c.add.ensures.most (node_of c.args.node)
     (add_answer c.add.result) (c.add.ensures.adds μ.nodes h.keeps)
