@@ -9,14 +9,14 @@ pub loop-i-preserved : goal.loop-i-preserved
 loop-i-preserved g c =
     let es = keys_in c.args.entries.now in
     let w = c.args.width in
-    let i = c.loop-i.-i in
-    let o = c.entry-at-entry.ensures in
+    let i = c.loop-i._i in
+    let o = c.entry_at-entry.ensures in
     let p = c.before-place.ensures ∙ ap before_of o in
-    let x = c.choice-in-choice.ensures ∙ ap choice_in o in
+    let x = c.choice_in-choice.ensures ∙ ap choice_in o in
     (λ t. spin es (w - (i + 1)) (p t) (x t)) ∙ sym (spin_more es w i c.loop-i.place (stands c.loop-i.choice) c.loop-i-test.true) ∙ c.loop-i.invariant
 
 pub returns : goal.returns
 returns g c =
     let es = keys_in c.args.entries.now in
-    let z : c.args.width - c.loop-i.-i ≡ 0 = omega arith in
+    let z : c.args.width - c.loop-i._i ≡ 0 = omega arith in
     sym (ap (λ k. spin es k c.loop-i.place (stands c.loop-i.choice)) z) ∙ c.loop-i.invariant ∙ reads es c.args.width c.args.n c.args.end
