@@ -1,5 +1,5 @@
 -- A bucket's number is below the number of places, and a table's places are among its slots.
-use Rattle.std.proofs.Common.{◌≡◌, ℕ, ◌*◌, ◌/◌, ◌%◌, ◌^◌, ◌<◌, ◌≤◌, mod-lt, mul_comm, mul-lt-mul_of_pos_right, arith}
+use Rattle.std.proofs.Common.{ℕ, ◌*◌, ◌/◌, ◌%◌, ◌^◌, ◌<◌, ◌≤◌, mod-lt, mul_comm, mul-lt-mul_of_pos_right, arith}
 use native.Mathlib.Nat.{min-le_left, min-le_right}
 use lib.Bits.{bit_xor}
 use Rattle.std.proofs.lemmas.Nat.{div_below}

@@ -1,11 +1,11 @@
 -- The slots of an empty table, the key in each slot, and a walk down a bucket's chain.
-use Rattle.std.proofs.Common.{◌≡◌, ℕ, ◌+◌, ◌<◌, ◌≤◌, true, false, List, [], map, length, get_or, take, set, Some, None, Option, sym, refl, ap, ◌∙◌, subst, ⊎_elim, arith, below_more}
+use Rattle.std.proofs.Common.{◌≡◌, ℕ, ◌+◌, ◌<◌, ◌≤◌, true, false, List, [], length, get_or, take, set, Some, None, sym, refl, ap, ◌∙◌, ⊎_elim, arith, below_more}
 use Rattle.std.proofs.lemmas.List.{length-take-le, get_or-map, get_or-take, get_or-set_same, get_or-set_other}
 use Rattle.std.proofs.lemmas.Bool.{both_ways, cases_lt, cases_order}
 use Rattle.table.specs.declared.Slot.{Slot}
 use Rattle.table.specs.declared.Table.{Table}
 use Rattle.table.specs.Keys.{KeyModel, KeyLaws, place_of}
-use Rattle.table.specs.Chains.{Newest, Stores, Chained, Means, bucket_of, bucket_in, room_of, slots_of}
+use Rattle.table.specs.Chains.{Stores, Chained, Means, bucket_of, bucket_in, room_of, slots_of}
 use Rattle.table.specs.Search.{Walk}
 use Rattle.table.proofs.Places.{absent_place, held_place}
 use Rattle.table.proofs.Buckets.{bucket_below, room_slots}

@@ -1,4 +1,4 @@
-use Rattle.std.proofs.Common.{length, refl, ap, ◌∙◌, arith}
+use Rattle.std.proofs.Common.{length, refl, ◌∙◌, arith}
 use Rattle.table.proofs.Buckets.{room_slots, room_most}
 use Rattle.table.proofs.Links.{puts_new}
 use Rattle.table.proofs.Table.append.Goals as goal
