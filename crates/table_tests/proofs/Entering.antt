@@ -1,8 +1,8 @@
 -- What a store learns of an owner that entered a key.
-use Rattle.std.proofs.Common.{◌≡◌, ℕ, Bool, true, ◌&&◌, eqb, List, is_some, Some, Ok, Err, Result, sym, refl, ap, subst, arith}
+use Rattle.std.proofs.Common.{◌≡◌, ℕ, true, ◌&&◌, eqb, List, is_some, Ok, Err, Result, sym, refl, ap, subst, arith}
 use Rattle.std.proofs.lemmas.Bool.{and_from, eq-eqb}
 use Rattle.table.specs.declared.Refusal.{Refusal}
-use Rattle.table.specs.Keys.{place_of, put_answer, put_keys}
+use Rattle.table.specs.Keys.{put_keys}
 use Rattle.table.proofs.Places.{put_found, put_refused}
 use Rattle.table_tests.specs.declared.NodeKey.{NodeKey}
 use Rattle.table_tests.specs.declared.NodeKey.TheVariants.{Leaf, Unary, Binary}

@@ -1,5 +1,5 @@
 -- Entries are the same exactly where they are equal.
-use Rattle.std.specs.Prelude.{◌≡◌, ℕ, true, false, ◌&&◌, ◌==◌, refl}
+use Rattle.std.specs.Prelude.{◌≡◌, true, ◌==◌, refl}
 use Rattle.std.specs.declared.cmp.Ordering.TheVariants.{Less, Equal, Greater}
 use Rattle.std.specs.declared.cmp.Ordering.{Ordering}
 use Rattle.std.proofs.Common.{true≢false, sym, ap}
@@ -9,7 +9,6 @@ use Rattle.cost.specs.Model.{Model, Laws}
 use Rattle.cost.specs.PairLaws.{cmp_itself}
 use Rattle.table.specs.Keys.{KeyLaws}
 use Rattle.table.proofs.Places.{equal_laws}
-use Rattle.table_tests.specs.declared.Entry.{Entry}
 use Rattle.table_tests.specs.Keys.{entry_key}
 
 equal_from : (r : Ordering) → is_eq r ≡ true → r ≡ Equal

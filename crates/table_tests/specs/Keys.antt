@@ -1,5 +1,5 @@
 -- Two types of keys: one by the number of kids, and one that holds a cost.
-use Rattle.std.specs.Prelude.{ℕ, ◌+◌, ◌*◌, ◌%◌, ◌^◌, Bool, true, false, ◌&&◌, ◌==◌}
+use Rattle.std.specs.Prelude.{ℕ, ◌+◌, ◌*◌, ◌%◌, ◌^◌, Bool, false, ◌&&◌, ◌==◌}
 use Rattle.std.specs.Ordering.{is_eq}
 use Rattle.cost.specs.Model.{Model}
 use Rattle.table.specs.Keys.{KeyModel}

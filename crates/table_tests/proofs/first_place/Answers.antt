@@ -1,6 +1,5 @@
-use Rattle.std.proofs.Common.{◌≡◌, ℕ, ◌<◌, ◌≤◌, [], length, Ok, Err, Result, sym, refl, ◌∙◌, arith}
+use Rattle.std.proofs.Common.{◌≡◌, ℕ, ◌<◌, ◌≤◌, [], length, Ok, refl, arith}
 use native.Mathlib.Nat.{le-min}
-use Rattle.table.specs.declared.Refusal.{Refusal}
 use Rattle.table.specs.Keys.{number_key, place_of, put_answer}
 use Rattle.table.specs.Chains.{room_for}
 use Rattle.table.proofs.Places.{put_new}

@@ -1,15 +1,13 @@
-use Rattle.table.specs.Keys.{put_answer}
 use Rattle.table.specs.Chains.{room_of}
-use Rattle.table_tests.specs.Keys.{entry_key}
 use Rattle.table_tests.specs.Owner.{Keeps}
 use Rattle.table_tests.proofs.Entering.{entered}
 use Rattle.table_tests.proofs.OwnerStore.enter.Goals as goal
 
 pub returns : goal.returns
-returns g c = (
-  λ ns h.
+returns g c = record {
+  entered = λ ns h.
       let e = c.enter.ensures.enters ns h.0 h.1 in
       entered (Keeps g.C.Cost.model c.enter.new.self) _ c.enter.result
-      (room_of c.args.self.now.nodes) ns c.args.key e.answer (_, e.holds),
-  c.enter.ensures.room,
-)
+      (room_of c.args.self.now.nodes) ns c.args.key e.answer (_, e.holds);
+  self_unchanged = c.enter.ensures.room;
+}
