@@ -9,38 +9,38 @@ use Rattle.automaton.proofs.Answering.{check_none, check_some, never_full, numbe
 use Rattle.automaton.proofs.Adding.{adds_unfit, adds_no_room, adds_more, next, key_here, tree_of, pushes_here}
 use Rattle.automaton.proofs.Automaton.add.Goals as goal
 
-pub returns-in-err-check : goal.returns-in-err-check
-returns-in-err-check g c =
+pub returns-in_err-check : goal.returns-in_err-check
+returns-in_err-check g c =
     let a = c.args.self.now in
     let ops = c.operators.ensures ∙ ap (λ (z : Lists g.row.C.Denot). z.operators) c.declarations-declarations.ensures.lists in
-    let e = err_from_is_err_and c.from-residual.result c.from-residual.ensures.1 in
+    let e = err_from_is_err_and c.from_residual.result c.from_residual.ensures.1 in
     record {
       adds = λ h l.
-          let f = c.in-err-check.field-0.0 in
-          adds_unfit g.met.C.Cost.laws a h l (node_of c.args.node) f (check_some a h c.args.node _ ops f (c.in-err-check.ensures.answer (open_nodes h) (open_labels g.C.Cost.model (grammar_of a) h) l.stands)) (add_answer c.from-residual.result) (ap add_answer e.1 ∙ ap (λ y. add_answer (Err y)) e.2);
+          let f = c.in_err-check.field-0.0 in
+          adds_unfit g.met.C.Cost.laws a h l (node_of c.args.node) f (check_some a h c.args.node _ ops f (c.in_err-check.ensures.answer (open_nodes h) (open_labels g.C.Cost.model (grammar_of a) h) l.stands)) (add_answer c.from_residual.result) (ap add_answer e.1 ∙ ap (λ y. add_answer (Err y)) e.2);
       fixed = record { grammar = refl; nodes = refl; keys = refl; rows = refl };
     }
 
-pub returns-in-err-label : goal.returns-in-err-label
-returns-in-err-label g c =
+pub returns-in_err-label : goal.returns-in_err-label
+returns-in_err-label g c =
     let laws = g.met.C.Cost.laws in
     let m = g.C.Cost.model in
     let a = c.args.self.now in
     let lists = c.declarations-declarations.ensures.lists in
     let ops = c.operators.ensures ∙ ap (λ (z : Lists g.row.C.Denot). z.operators) lists in
     let rules = c.rules.ensures ∙ ap (λ (z : Lists g.row.C.Denot). z.rules) lists in
-    let e = err_from_is_err_and c.from-residual-in-err-label.result c.from-residual-in-err-label.ensures.1 in
+    let e = err_from_is_err_and c.from_residual-in_err-label.result c.from_residual-in_err-label.ensures.1 in
     let x = node_of c.args.node in
     record {
       adds = λ h l.
-          let passed = check_none a h c.args.node _ ops (c.in-ok-check.ensures.answer (open_nodes h) (open_labels m (grammar_of a) h) l.stands) in
-          let gives = c.in-err-label.ensures.gives (grammar_of a) (accepted h) (tree_of laws a h l x passed).0 l.knows (sym rules) (next laws a h l x passed) (c.key-key.ensures h l ∙ key_here laws a h l x passed) in
-          adds_no_room laws a h l x passed c.in-err-label.field-0.0 _ refl refl gives (add_answer c.from-residual-in-err-label.result) (ap add_answer e.1 ∙ ap (λ y. add_answer (Err y)) e.2);
-      fixed = record { grammar = refl; nodes = refl; keys = c.in-err-label.ensures.limits.most_keys; rows = c.in-err-label.ensures.limits.most_rows };
+          let passed = check_none a h c.args.node _ ops (c.in_ok-check.ensures.answer (open_nodes h) (open_labels m (grammar_of a) h) l.stands) in
+          let gives = c.in_err-label.ensures.gives (grammar_of a) (accepted h) (tree_of laws a h l x passed).0 l.knows (sym rules) (next laws a h l x passed) (c.key-key.ensures h l ∙ key_here laws a h l x passed) in
+          adds_no_room laws a h l x passed c.in_err-label.field-0.0 _ refl refl gives (add_answer c.from_residual-in_err-label.result) (ap add_answer e.1 ∙ ap (λ y. add_answer (Err y)) e.2);
+      fixed = record { grammar = refl; nodes = refl; keys = c.in_err-label.ensures.limits.most_keys; rows = c.in_err-label.ensures.limits.most_rows };
     }
 
-pub returns-in-err-number : goal.returns-in-err-number
-returns-in-err-number g c =
+pub returns-in_err-number : goal.returns-in_err-number
+returns-in_err-number g c =
     let laws = g.met.C.Cost.laws in
     let m = g.C.Cost.model in
     let a = c.args.self.now in
@@ -48,10 +48,10 @@ returns-in-err-number g c =
     let x = node_of c.args.node in
     record {
       adds = λ h l.
-          let passed = check_none a h c.args.node _ ops (c.in-ok-check.ensures.answer (open_nodes h) (open_labels m (grammar_of a) h) l.stands) in
+          let passed = check_none a h c.args.node _ ops (c.in_ok-check.ensures.answer (open_nodes h) (open_labels m (grammar_of a) h) l.stands) in
           let p = pushes_here laws a h l x passed c.push.new.self _ c.push.result (c.push.ensures.pushed (open_nodes h) (open_labels m (grammar_of a) h) l.stands) in
-          absurd (never_full c.push.result _ c.in-err-number.field-0.0 _ c.in-err-number.ensures.value p.0);
-      fixed = record { grammar = refl; nodes = c.push.ensures.most; keys = c.in-ok-label.ensures.limits.most_keys; rows = c.in-ok-label.ensures.limits.most_rows };
+          absurd (never_full c.push.result _ c.in_err-number.field-0.0 _ c.in_err-number.ensures.value p.0);
+      fixed = record { grammar = refl; nodes = c.push.ensures.most; keys = c.in_ok-label.ensures.limits.most_keys; rows = c.in_ok-label.ensures.limits.most_rows };
     }
 
 pub returns : goal.returns
@@ -65,10 +65,10 @@ returns g c =
     let x = node_of c.args.node in
     record {
       adds = λ h l.
-          let passed = check_none a h c.args.node _ ops (c.in-ok-check.ensures.answer (open_nodes h) (open_labels m (grammar_of a) h) l.stands) in
-          let gives = c.in-ok-label.ensures.gives (grammar_of a) (accepted h) (tree_of laws a h l x passed).0 l.knows (sym rules) (next laws a h l x passed) (c.key-key.ensures h l ∙ key_here laws a h l x passed) in
+          let passed = check_none a h c.args.node _ ops (c.in_ok-check.ensures.answer (open_nodes h) (open_labels m (grammar_of a) h) l.stands) in
+          let gives = c.in_ok-label.ensures.gives (grammar_of a) (accepted h) (tree_of laws a h l x passed).0 l.knows (sym rules) (next laws a h l x passed) (c.key-key.ensures h l ∙ key_here laws a h l x passed) in
           let p = pushes_here laws a h l x passed c.push.new.self _ c.push.result (c.push.ensures.pushed (open_nodes h) (open_labels m (grammar_of a) h) l.stands) in
-          let number = number_is c.push.result _ c.in-ok-number.number _ c.in-ok-number.ensures.value p.0 in
-          adds_more laws a h l x passed c.in-ok-label.label.0 _ refl c.push.ensures.most gives p.1 _ (ap (λ n. Ok (n, Some c.in-ok-label.label.0)) number);
-      fixed = record { grammar = refl; nodes = c.push.ensures.most; keys = c.in-ok-label.ensures.limits.most_keys; rows = c.in-ok-label.ensures.limits.most_rows };
+          let number = number_is c.push.result _ c.in_ok-number.number _ c.in_ok-number.ensures.value p.0 in
+          adds_more laws a h l x passed c.in_ok-label.label.0 _ refl c.push.ensures.most gives p.1 _ (ap (λ n. Ok (n, Some c.in_ok-label.label.0)) number);
+      fixed = record { grammar = refl; nodes = c.push.ensures.most; keys = c.in_ok-label.ensures.limits.most_keys; rows = c.in_ok-label.ensures.limits.most_rows };
     }

@@ -10,20 +10,20 @@ use Rattle.automaton.specs.Birth.{lengths, enough}
 use Rattle.automaton.proofs.Births.{long_as, ranges, fits, birth_range, birth_by, rows_fit}
 use Rattle.automaton.proofs.Automaton.new.Goals as goal
 
-pub returns-then-not-are-ranged : goal.returns-then-not-are-ranged
-returns-then-not-are-ranged g c = birth_range c.args.capacities (count (grammar_lists c.args.grammar.now)) (lengths c.args.memory) c.if-not-are-ranged.ensures
+pub returns-then-not-are_ranged : goal.returns-then-not-are_ranged
+returns-then-not-are_ranged g c = birth_range c.args.capacities (count (grammar_lists c.args.grammar.now)) (lengths c.args.memory) c.if-not-are_ranged.ensures
 
-pub is-enough-requires : goal.is-enough-requires
-is-enough-requires g c =
+pub is_enough-requires : goal.is_enough-requires
+is_enough-requires g c =
     let wide = long_as nonterminal_of c.nonterminals-nonterminals.result.now _ (c.nonterminals-nonterminals.ensures ∙ ap (λ (z : Lists g.row.C.Denot). z.nonterminals) c.declarations.ensures.lists) in
     let few = c.declarations.ensures.fits.few_nonterminals in
-    ((ranges c.args.capacities (sym c.if-not-are-ranged.ensures)).rows, omega arith)
+    ((ranges c.args.capacities (sym c.if-not-are_ranged.ensures)).rows, omega arith)
 
-pub returns-then-not-is-enough : goal.returns-then-not-is-enough
-returns-then-not-is-enough g c =
+pub returns-then-not-is_enough : goal.returns-then-not-is_enough
+returns-then-not-is_enough g c =
     let wide = long_as nonterminal_of c.nonterminals-nonterminals.result.now _ (c.nonterminals-nonterminals.ensures ∙ ap (λ (z : Lists g.row.C.Denot). z.nonterminals) c.declarations.ensures.lists) in
-    birth_by c.args.capacities (count (grammar_lists c.args.grammar.now)) (lengths c.args.memory) false c.if-not-are-ranged.ensures
-    (ap (λ n. enough c.args.capacities n (lengths c.args.memory)) (sym wide) ∙ sym c.if-not-is-enough.ensures)
+    birth_by c.args.capacities (count (grammar_lists c.args.grammar.now)) (lengths c.args.memory) false c.if-not-are_ranged.ensures
+    (ap (λ n. enough c.args.capacities n (lengths c.args.memory)) (sym wide) ∙ sym c.if-not-is_enough.ensures)
 
 pub returns : goal.returns
 returns g c =
@@ -32,12 +32,12 @@ returns g c =
     let n = length c.nonterminals-nonterminals.result.now in
     let wide : n ≡ count G = long_as nonterminal_of c.nonterminals-nonterminals.result.now _ (c.nonterminals-nonterminals.ensures ∙ ap (λ (z : Lists g.row.C.Denot). z.nonterminals) c.declarations.ensures.lists) in
     let few = c.declarations.ensures.fits.few_nonterminals in
-    let r = ranges caps (sym c.if-not-are-ranged.ensures) in
-    let f = fits caps n (lengths c.args.memory) (sym c.if-not-is-enough.ensures) in
+    let r = ranges caps (sym c.if-not-are_ranged.ensures) in
+    let f = fits caps n (lengths c.args.memory) (sym c.if-not-is_enough.ensures) in
     let most = c.new.ensures.most ∙ min-eq_left f.nodes in
     let narrow : n ≤ 32 = omega arith in
     let keys : caps.keys ≤ room_for (length c.args.memory.keys.now) = (let a = f.keys in let b = r.keys in omega arith) in (
-      birth_by caps (count G) (lengths c.args.memory) true c.if-not-are-ranged.ensures (ap (λ z. enough caps z (lengths c.args.memory)) (sym wide) ∙ sym c.if-not-is-enough.ensures),
+      birth_by caps (count G) (lengths c.args.memory) true c.if-not-are_ranged.ensures (ap (λ z. enough caps z (lengths c.args.memory)) (sym wide) ∙ sym c.if-not-is_enough.ensures),
       refl,
       most,
       c.new-2.ensures.keys,

@@ -16,5 +16,5 @@ returns c ns ls s g =
     let v = c.args.self.now.nodes in
     let x = node_of c.args.node in
     let l = label_of c.args.label in
-    subst (λ r. Enters ops v ns ls x l r c.push.new.self) (sym c.ok-or.ensures.value)
-    (enters_pushed ops v ns ls x l s g c.check.result c.push.result c.push.new.self c.in-default.is (c.check.ensures.answer ns ls s) (c.push.ensures.pushed ns ls s))
+    subst (λ r. Enters ops v ns ls x l r c.push.new.self) (sym c.ok_or.ensures.value)
+    (enters_pushed ops v ns ls x l s g c.check.result c.push.result c.push.new.self c.in_default.is (c.check.ensures.answer ns ls s) (c.push.ensures.pushed ns ls s))

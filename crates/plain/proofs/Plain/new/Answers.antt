@@ -9,8 +9,8 @@ use Rattle.label.proofs.Reading.{lengths}
 use Rattle.plain.proofs.Plain.new.Goals.{then-nodes-most-via-then-nodes-most, then-nodes-most-via-else-nodes-most+then-rows-most}
 use Rattle.plain.proofs.Plain.new.Goals as goal
 
-pub overflow-mul-most : goal.overflow-mul-most
-overflow-mul-most g c =
+pub overflow_mul-most : goal.overflow_mul-most
+overflow_mul-most g c =
     let wide =
     lengths nonterminal_of c.nonterminals-width.result.now _
     (c.nonterminals-width.ensures ∙ ap (λ (z : Lists g.row.C.Denot). z.nonterminals) c.declarations.ensures.lists) in
@@ -29,8 +29,8 @@ returns-then-nodes-most g c =
       | then-nodes-most-via-else-nodes-most+then-rows-most w ↦ inr (omega (arith, w.if-rows-most.true, ap (λ z. c.args.most * z) wide))
     ])
 
-pub split-at-mut-newest-requires : goal.split-at-mut-newest-requires
-split-at-mut-newest-requires g c =
+pub split_at_mut-newest-requires : goal.split_at_mut-newest-requires
+split_at_mut-newest-requires g c =
     omega (arith, mul-le-mul_right (length c.nonterminals-width.result.now) c.if-most-lt1.false, c.if-rows-most.false)
 
 pub returns : goal.returns
@@ -44,7 +44,7 @@ returns g c =
           (omega (arith, c.if-rows-most.false)),
       refl,
       most,
-      λ sealed. keeps_none g.C.Cost.model _ sealed (omega (arith, c.if-most-gt2048.false)) c.new.ensures.stands (c.split-at-mut-newest.ensures.front-len ∙ wide)
-          (subst (λ z. z * count (grammar_lists c.args.grammar.now) ≤ length c.split-at-mut-newest.result.0.now + length c.split-at-mut-newest.result.1.now) (sym most)
-          (omega (arith, c.if-rows-most.false, c.split-at-mut-newest.ensures.front-len, c.split-at-mut-newest.ensures.back_len))),
+      λ sealed. keeps_none g.C.Cost.model _ sealed (omega (arith, c.if-most-gt2048.false)) c.new.ensures.stands (c.split_at_mut-newest.ensures.front_len ∙ wide)
+          (subst (λ z. z * count (grammar_lists c.args.grammar.now) ≤ length c.split_at_mut-newest.result.0.now + length c.split_at_mut-newest.result.1.now) (sym most)
+          (omega (arith, c.if-rows-most.false, c.split_at_mut-newest.ensures.front_len, c.split_at_mut-newest.ensures.back_len))),
     )

@@ -12,8 +12,8 @@ returns-in-None g c =
 
 pub returns-then-width-places : goal.returns-then-width-places
 returns-then-width-places g c =
-    row_moved c.args.newest.now c.args.number c.args.rows.now c.in-Some.start _ c.copy-from-slice.new.self
-    (omega arith) c.in-Some.ensures.1 (omega arith) c.copy-from-slice.ensures.after
+    row_moved c.args.newest.now c.args.number c.args.rows.now c.in-Some.start _ c.copy_from_slice.new.self
+    (omega arith) c.in-Some.ensures.1 (omega arith) c.copy_from_slice.ensures.after
 
 pub returns-else-start-places : goal.returns-else-start-places
 returns-else-start-places g c =

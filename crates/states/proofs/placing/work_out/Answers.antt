@@ -9,6 +9,6 @@ use Rattle.states.proofs.placing.work_out.Goals as goal
 pub returns : goal.returns
 returns g c G held h d r e =
     let m = g.C.Cost.model in
-    c.row-into.ensures G d r e
-    ∙ ap (λ z. row_above m (best_of m G (applied (λ k. costs_of (row_of k)) z))) c.kids-of-key-kids.ensures
+    c.row_into.ensures G d r e
+    ∙ ap (λ z. row_above m (best_of m G (applied (λ k. costs_of (row_of k)) z))) c.kids_of_key-kids.ensures
     ∙ ap (λ z. row_above m (best_of m G z)) (kids_ranks held c.args.key _ _ (c.row-first.ensures.means held h ∙ ap (λ l. get_or held l []) c.first_label.ensures) (c.row-second.ensures.means held h ∙ ap (λ l. get_or held l []) c.second_label.ensures))

@@ -11,10 +11,10 @@ returns g c = record {
       let sizes = c.args.sizes in
       let t = c.new.result in
       let v = c.new-2.result in
-      let wide : length c.split-at-mut-work.result.0.now ≡ count G = (let a = c.split-at-mut-work.ensures.front-len in let b = c.min-places.ensures in omega arith) in
+      let wide : length c.split_at_mut-work.result.0.now ≡ count G = (let a = c.split_at_mut-work.ensures.front_len in let b = c.min-places.ensures in omega arith) in
       let keys : room_of t ≡ room_for (length c.args.transitions.now) = ap room_for c.new.ensures.length in
       let rows : rows_room v ≡ rows_in (room_for (length c.args.ends.now)) (room_for (length c.args.entries.now)) sizes.nonterminals = (λ i. rows_in (room_for (c.new-2.ensures.ends_length i)) (room_for (c.new-2.ensures.entries_length i)) (c.new-2.ensures.width i)) in
-      knows_nothing g.C.Cost.model G record { transitions = t; rows = v; work = c.split-at-mut-work.result.0; most_keys = sizes.keys; most_rows = sizes.rows } s c.new.ensures.means c.new-2.ensures.holds (c.new-2.ensures.width ∙ sym n) wide (omega arith) (omega arith);
+      knows_nothing g.C.Cost.model G record { transitions = t; rows = v; work = c.split_at_mut-work.result.0; most_keys = sizes.keys; most_rows = sizes.rows } s c.new.ensures.means c.new-2.ensures.holds (c.new-2.ensures.width ∙ sym n) wide (omega arith) (omega arith);
   keys = refl;
   rows = refl;
 }
