@@ -1,5 +1,5 @@
 -- One key more in a run of puts and in a sum of places, and one round more.
-use Rattle.std.proofs.Common.{◌≡◌, ℕ, ◌+◌, ◌*◌, ◌%◌, ◌^◌, ◌<◌, List, length, get_or, take, Option, sym, ap, ◌∙◌, add-mul, one-mul}
+use Rattle.std.proofs.Common.{◌≡◌, ℕ, ◌+◌, ◌*◌, ◌%◌, ◌<◌, List, length, get_or, take, Option, sym, ap, ◌∙◌, add-mul, one-mul}
 use native.Mathlib.Nat.{mod-add-mod}
 use Rattle.std.proofs.lemmas.List.Sums.{fold_more}
 use Rattle.table.specs.Keys.{number_key, place_of, put_keys}

@@ -6,7 +6,7 @@ use Rattle.table_speed.proofs.places.Goals as goal
 
 pub loop-key-preserved : goal.loop-key-preserved
 loop-key-preserved c = λ held m.
-    c.with-place-sum.ensures ∙ one_place held c.args.keys.now c.loop-key.key-index c.loop-key.sum c.find.result (omega arith) (c.find.ensures held m) (c.loop-key.invariant held m)
+    c.with_place-sum.ensures ∙ one_place held c.args.keys.now c.loop-key.key-index c.loop-key.sum c.find.result (omega arith) (c.find.ensures held m) (c.loop-key.invariant held m)
 
 pub returns : goal.returns
 returns c = λ held m.

@@ -1,4 +1,4 @@
-use Rattle.std.proofs.Common.{◌≡◌, ℕ, ◌*◌, ◌%◌, ◌^◌, sym, ap, ◌∙◌, zero-mul, arith}
+use Rattle.std.proofs.Common.{◌≡◌, ◌*◌, ◌%◌, ◌^◌, sym, ap, ◌∙◌, zero-mul, arith}
 use Rattle.table_speed.specs.Speeds.{places_sum}
 use Rattle.table_speed.proofs.Adding.{one_round}
 use Rattle.table_speed.proofs.rounds_of.Goals as goal
@@ -8,7 +8,7 @@ loop-round-init c = λ held m. sym (ap (λ n. n % 2 ^ 64) (zero-mul (places_sum 
 
 pub loop-round-preserved : goal.loop-round-preserved
 loop-round-preserved c = λ held m.
-    one_round c.loop-round.round c.loop-round.sum c.places_sum.result (places_sum held c.args.keys.now) (2 ^ 64) (c.loop-round.invariant held m) (c.places_sum.ensures held m)
+    one_round c.loop-round.round c.loop-round.sum c.places-sum.result (places_sum held c.args.keys.now) (2 ^ 64) (c.loop-round.invariant held m) (c.places-sum.ensures held m)
 
 pub returns : goal.returns
 returns c = λ held m.
