@@ -65,5 +65,5 @@ pub fn one_more_four_less() -> (Pair<Count, Count>, Ordering)
     ensures { result ≡ (pair (count (pos 1)) (count (negsuc 3)), Greater) }
 {
     let rest = counts(2, 1).diff(counts(1, 5));
-    (rest, rest.compare(&PairCost::<Count, Count>::zero()))
+    (rest, rest.compare(&Pair::<Count, Count>::zero()))
 }
