@@ -1,23 +1,21 @@
 -- What adding a node answers, and what the automaton means then.
 use Rattle.std.proofs.Common.{◌≡◌, ℕ, ◌+◌, ◌<◌, ◌≤◌, List, [], ◌∷◌, ◌++◌, map, length, Some, None, Ok, Err, Option, Result, sym, refl, ap, ◌∙◌, subst, arith}
-use Rattle.std.specs.Option.{option_map, ok_or}
+use Rattle.std.specs.Option.{option_map}
 use Rattle.cost.specs.Model.{Model, Laws}
-use Rattle.grammar.specs.Lists.{Lists, OperatorOf}
+use Rattle.grammar.specs.Lists.{Lists}
 use Rattle.grammar.specs.Meaning.{grammar_lists}
 use Rattle.covers.specs.Trees.{Tree, size}
 use Rattle.covers.specs.Ranks.{at}
-use Rattle.covers.specs.Nodes.{Node, Listed, kids}
-use Rattle.covers.specs.Held.{In, kid_trees, key, label}
-use Rattle.covers.proofs.Relaxing.{some_is, none_some}
-use Rattle.nodes.specs.declared.Node.{Node as CodeNode}
+use Rattle.covers.specs.Nodes.{Node, Listed}
+use Rattle.covers.specs.Held.{In, key, label}
 use Rattle.nodes.specs.declared.NodeNumber.{NodeNumber}
 use Rattle.nodes.specs.declared.NodeRefusal.{NodeRefusal}
 use Rattle.nodes.specs.declared.Nodes.{Nodes}
-use Rattle.nodes.specs.Checks.{check_node, check_answer}
+use Rattle.nodes.specs.Checks.{check_node}
 use Rattle.nodes.specs.Meaning.{Pushed, Stands, most_of}
-use Rattle.nodes.specs.Views.{node_of, number_of}
+use Rattle.nodes.specs.Views.{number_of}
 use Rattle.nodes.proofs.Pushing.{pushed_more}
-use Rattle.nodes.proofs.Right.{check_ok, check_refused, checked_room, checked_below, checked_listed}
+use Rattle.nodes.proofs.Right.{checked_room, checked_below, checked_listed}
 use Rattle.label.specs.Meaning.{by_room}
 use Rattle.label.specs.declared.refusals.AddRefusal.{AddRefusal}
 use Rattle.label.specs.declared.refusals.AddRefusal.TheVariants.{Node as Unfit, Room}
@@ -26,8 +24,8 @@ use Rattle.states.specs.declared.states.States.{States}
 use Rattle.states.specs.Meaning.{Knows, GivesBy, Gives, SameTables}
 use Rattle.states.specs.Room.{lack, Next}
 use Rattle.automaton.specs.declared.Automaton.{Automaton}
-use Rattle.automaton.specs.Histories.{History, added, refused, open_nodes, open_trees, new_tree, as_list, accepted, open_labels, key_by, lack_of, room_after, event}
-use Rattle.automaton.specs.Meaning.{grammar_of, most_nodes, most_keys, most_rows, Lived, label_then, answer_by, refusal_after, Unchanged, AddsTo}
+use Rattle.automaton.specs.Histories.{History, added, refused, open_nodes, open_trees, new_tree, as_list, accepted, open_labels, key_by, lack_of, room_after}
+use Rattle.automaton.specs.Meaning.{grammar_of, most_nodes, most_keys, most_rows, Lived, label_then, answer_by, refusal_after, AddsTo}
 use Rattle.automaton.proofs.Living.{trees_more, new_tree_some, kid_stands, key_is, labels_more, opens_more}
 
 -- a refused node leaves all as it was

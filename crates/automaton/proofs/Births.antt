@@ -1,5 +1,5 @@
 -- Births that are refused, and those that are not.
-use Rattle.std.proofs.Common.{◌≡◌, ℕ, zero, suc, ◌*◌, ◌/◌, ◌<◌, ◌≤◌, min, Bool, true, false, cond, ◌&&◌, eqb, leb, List, [], map, length, Some, None, sym, refl, ap, ◌∙◌, subst, mul-le-mul, le-div_iff_mul-le, arith}
+use Rattle.std.proofs.Common.{◌≡◌, ℕ, zero, suc, ◌*◌, ◌/◌, ◌<◌, ◌≤◌, min, Bool, true, false, cond, ◌&&◌, leb, List, map, length, Some, None, sym, refl, ap, ◌∙◌, mul-le-mul, le-div_iff_mul-le, arith}
 use Rattle.std.proofs.lemmas.List.{length-map}
 use Rattle.std.proofs.lemmas.Bool.{and_parts, leb-true, eq-eqb, ne_eqb}
 use Rattle.label.specs.declared.refusals.BirthRefusal.TheVariants.{Capacity as OutOfRange, Memory as TooShort}

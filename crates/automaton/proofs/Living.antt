@@ -1,5 +1,5 @@
 -- How the open tree and the accepted nodes grow by one node.
-use Rattle.std.proofs.Common.{◌≡◌, ℕ, zero, suc, ◌+◌, ◌<◌, ◌≤◌, List, [], ◌∷◌, ◌++◌, map, length, ℤ, Some, None, Option, sym, refl, ap, ◌∙◌, subst, inl, inr, arith}
+use Rattle.std.proofs.Common.{◌≡◌, ℕ, zero, suc, ◌+◌, ◌≤◌, List, [], ◌∷◌, ◌++◌, map, length, ℤ, Some, None, Option, sym, refl, ap, ◌∙◌, subst, inl, inr, arith}
 use Rattle.std.specs.List.{slice_get}
 use Rattle.std.specs.Option.{option_map, option_zip}
 use Rattle.std.proofs.lemmas.List.{length-append, map-append}
@@ -7,14 +7,14 @@ use Rattle.cost.specs.Model.{Model, Laws}
 use Rattle.grammar.specs.Lists.{OperatorOf, Lists}
 use Rattle.covers.specs.Trees.{Applied, leaf, unary, binary, Tree, node0, node1, node2, size}
 use Rattle.covers.specs.Ranks.{at}
-use Rattle.covers.specs.Nodes.{Node, Listed, tree_over, subtrees_after, subtree}
-use Rattle.covers.specs.Held.{Key, In, kid_trees, label, key}
+use Rattle.covers.specs.Nodes.{Node, Listed, tree_over, subtrees_after}
+use Rattle.covers.specs.Held.{In, kid_trees, label, key}
 use Rattle.covers.proofs.Relaxing.{some_is, none_some}
 use Rattle.covers.proofs.Nths.{nth_front, nth_back, at_more, at_last}
 use Rattle.covers.proofs.Shifts.{at_map}
 use Rattle.covers.proofs.NodeTrees.{mapped_some, zipped_some, subtrees_split, subtrees_length, subtree_each, subtree_small}
 use Rattle.covers.proofs.Labels.{label_stays}
-use Rattle.automaton.specs.Histories.{open_labels, or_0, key_by}
+use Rattle.automaton.specs.Histories.{or_0, key_by}
 
 -- the subtrees of the nodes of a list
 abbrev trees_of : List Node → List (Option Tree)

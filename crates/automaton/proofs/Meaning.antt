@@ -1,16 +1,15 @@
 -- An automaton as a labeller: what its history says.
-use Rattle.std.proofs.Common.{◌≡◌, ℕ, ◌≤◌, List, [], ◌∷◌, ◌++◌, length, Some, None, Ok, Err, Option, Result, sym, refl, ap, ◌∙◌, subst, arith}
+use Rattle.std.proofs.Common.{◌≡◌, ℕ, [], ◌∷◌, ◌++◌, length, Some, None, Ok, Err, Option, Result, sym, refl, ap, ◌∙◌, subst, arith}
 use Rattle.cost.specs.Model.{Model}
 use Rattle.grammar.specs.Lists.{Lists, Sealed}
 use Rattle.covers.specs.Nodes.{Node, Listed}
 use Rattle.covers.specs.Held.{rows_held, keys_held}
 use Rattle.nodes.specs.Checks.{check_node}
-use Rattle.nodes.specs.Meaning.{Stands}
-use Rattle.label.specs.Meaning.{Meaning, Sound, Started, Cleared, Appended, AddsBy, Adds, by_room, refusal}
+use Rattle.label.specs.Meaning.{Meaning, Sound, Started, Cleared, AddsBy, Adds, by_room, refusal}
 use Rattle.label.specs.declared.refusals.AddRefusal.{AddRefusal}
 use Rattle.automaton.specs.declared.Automaton.{Automaton}
 use Rattle.automaton.specs.Histories.{History, started, cleared, added, refused, open_nodes, open_labels, accepted, new_tree, room_after, event}
-use Rattle.automaton.specs.Meaning.{grammar_of, most_nodes, most_keys, most_rows, Lived, Fixed, AddsTo, refusal_after, answer_by, label_then, add_answer_after, AutomatonMeans}
+use Rattle.automaton.specs.Meaning.{grammar_of, most_nodes, most_keys, most_rows, Lived, Fixed, AddsTo, refusal_after, answer_by, label_then, AutomatonMeans}
 
 -- what a history says
 abbrev pub told : {C : Type 0} → Model C → Automaton C → History → Meaning C

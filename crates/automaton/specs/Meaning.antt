@@ -1,5 +1,5 @@
 -- What an automaton means, by all that was asked of it.
-use Rattle.std.specs.Prelude.{◌≡◌, ℕ, ◌≤◌, List, [], ◌∷◌, ◌++◌, map, length, Some, None, Ok, Err, Option, Result}
+use Rattle.std.specs.Prelude.{◌≡◌, ℕ, ◌≤◌, List, [], ◌∷◌, ◌++◌, length, Some, None, Ok, Err, Option, Result}
 use Rattle.cost.specs.Model.{Model}
 use Rattle.grammar.specs.Lists.{Lists, Sealed}
 use Rattle.grammar.specs.Meaning.{grammar_lists}

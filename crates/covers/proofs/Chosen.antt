@@ -8,7 +8,7 @@ use Rattle.grammar.specs.Lists.{FormOf, chain, base0, base1, base2, RuleOf, List
 use Rattle.covers.specs.Trees.{Applied, leaf, unary, binary, Tree, node0, node1, node2, size}
 use Rattle.covers.specs.Covers.{cost_or_zero, rule_cost, source, Run, Cover, Covers, cover_cost, Least, Fewest, BaseAttains, ChainAttains, Lowest, Choice}
 use Rattle.covers.specs.Ranks.{Rank, Ranks, by_rank, at, up, further, with1, with2, base_offer, ranked, ranks_of, kid_ranks, is_rank, offer, offers, first_from, choose, choices, best}
-use Rattle.covers.specs.Rounds.{over, light}
+use Rattle.covers.specs.Rounds.{over}
 use Rattle.covers.proofs.Order.{Le, rank_order, cost_order, le_same, itself}
 use Rattle.covers.proofs.Within.{Fair, up_le, rank_cost, rank_count}
 use Rattle.covers.proofs.Relaxing.{Under, some_is, none_some}

@@ -8,7 +8,7 @@ use Rattle.grammar.specs.Lists.{FormOf, chain, base0, base1, base2, RuleOf, List
 use Rattle.covers.specs.Trees.{count}
 use Rattle.covers.specs.Covers.{cost_or_zero, rule_source, form_source, rule_cost, source, RuleIs, Apart, on_run, Run}
 use Rattle.covers.specs.Ranks.{Rank, Ranks, by_rank, at, up, further, better, relax, chain_offer, round, rounds}
-use Rattle.covers.specs.Rounds.{over, light, Light, Closes}
+use Rattle.covers.specs.Rounds.{over, Light, Closes}
 use Rattle.covers.proofs.Order.{Lt, rank_order, lt_le, le_refl, irrefl}
 use Rattle.covers.proofs.Within.{Fair, up_le, up_grows}
 use Rattle.covers.proofs.Relaxing.{Under, some_is, none_some, under_trans, relax_old, relax_new, relax_is}

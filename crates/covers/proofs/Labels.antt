@@ -1,17 +1,17 @@
 -- Labels, rows held and keys held.
-use Rattle.std.proofs.Common.{◌≡◌, ℕ, zero, suc, ◌+◌, ◌<◌, ◌≤◌, Bool, true, false, cond, eqb, List, [], ◌∷◌, ◌++◌, map, length, Some, None, Decides, Option, Ordering, Less, Equal, Greater, sym, refl, ap, ◌∙◌, subst, true≢false, arith}
+use Rattle.std.proofs.Common.{◌≡◌, ℕ, suc, Bool, true, false, cond, eqb, List, [], ◌∷◌, ◌++◌, map, Some, None, Decides, Option, Ordering, Less, Equal, Greater, sym, refl, ap, ◌∙◌, true≢false, arith}
 use Rattle.std.proofs.lemmas.List.{map-append}
 use Rattle.std.proofs.lemmas.Bool.{eqb-true, eq-eqb}
 use Rattle.std.specs.List.{slice_get}
 use Rattle.std.specs.Ordering.{is_eq}
 use Rattle.cost.specs.Model.{Model, Laws}
 use Rattle.grammar.specs.Lists.{Lists}
-use Rattle.covers.specs.Trees.{Applied, leaf, unary, binary, Tree, node0, node1, node2}
+use Rattle.covers.specs.Trees.{leaf, unary, binary, Tree, node0, node1, node2}
 use Rattle.covers.specs.Rows.{Row, row}
 use Rattle.covers.specs.Held.{same_entry, same_row, Key, same_key, place, put_all, different, rows_held, label, key, keys_held, kid_trees, Accepted, In, Counts}
 use Rattle.covers.proofs.Relaxing.{some_is, none_some}
 use Rattle.covers.proofs.Order.{cost_order, itself}
-use Rattle.covers.proofs.Nths.{nth_below, nth_front, nth_map}
+use Rattle.covers.proofs.Nths.{nth_map}
 use Rattle.covers.proofs.Places.{place_in, place_one, place_front, put_all_split, put_all_begins, counts}
 
 -- ---- each test tells whether two are one

@@ -6,7 +6,7 @@ use Rattle.grammar.specs.Lists.{FormOf, RuleOf, Lists, rule, Sealed}
 use Rattle.covers.specs.Trees.{count, Applied, Tree, node0, node1, node2, size}
 use Rattle.covers.specs.Covers.{Cover, Covers}
 use Rattle.covers.specs.Ranks.{Rank, Ranks, at, base_offer, chain_offer, bases, round, rounds, kid_ranks}
-use Rattle.covers.specs.Rows.{least_of_all, row, kid_rows, as_ranks}
+use Rattle.covers.specs.Rows.{row, kid_rows, as_ranks}
 use Rattle.covers.specs.Steps.{Step, steps, total}
 use Rattle.covers.specs.Weights.{third, after_bases, after_rounds, LightFrom, LightTree}
 use Rattle.covers.proofs.Relaxing.{some_is, none_some}

@@ -1,14 +1,14 @@
 -- The subtrees of a list of nodes.
 use Rattle.std.proofs.Common.{◌≡◌, ℕ, zero, suc, ◌+◌, ◌<◌, ◌≤◌, ◌≢◌, ◌⊎◌, List, [], ◌∷◌, ◌++◌, length, get_or, set, ℤ, Some, None, Option, sym, refl, ap, ◌∙◌, subst, inl, inr, arith}
 use Rattle.std.proofs.lemmas.List.{length-append, length-set, get_or-set_other}
-use Rattle.std.proofs.lemmas.Bool.{cases_eq, cases_lt}
+use Rattle.std.proofs.lemmas.Bool.{cases_lt}
 use Rattle.std.specs.List.{slice_get}
 use Rattle.std.specs.Option.{option_map, option_zip}
 use Rattle.grammar.specs.Lists.{OperatorOf}
 use Rattle.covers.specs.Trees.{Applied, leaf, unary, binary, Tree, node0, node1, node2, size, TreeFits}
 use Rattle.covers.specs.Covers.{Apart, Distinct}
 use Rattle.covers.specs.Ranks.{at}
-use Rattle.covers.specs.Nodes.{Node, node, operator, kids, all_kids, Below, Listed, Subtree, tree_over, subtrees_after, subtree}
+use Rattle.covers.specs.Nodes.{Node, node, kids, all_kids, Below, Listed, Subtree, tree_over, subtrees_after, subtree}
 use Rattle.covers.proofs.Relaxing.{some_is, none_some}
 use Rattle.covers.proofs.Nths.{nth_below, at_more, at_front, at_last}
 

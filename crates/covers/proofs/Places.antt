@@ -1,10 +1,10 @@
 -- The different ones of a list, and their places.
-use Rattle.std.proofs.Common.{◌≡◌, ℕ, zero, suc, ◌+◌, ◌<◌, ◌≤◌, Bool, true, false, cond, ◌⊎◌, List, [], ◌∷◌, ◌++◌, map, length, Some, None, Decides, Option, sym, refl, ap, ◌∙◌, subst, inl, inr, true≢false, arith}
+use Rattle.std.proofs.Common.{◌≡◌, ℕ, zero, suc, ◌+◌, Bool, true, false, cond, ◌⊎◌, List, [], ◌∷◌, ◌++◌, length, Some, Decides, Option, sym, refl, ap, ◌∙◌, subst, inl, inr, true≢false, arith}
 use Rattle.std.proofs.lemmas.List.{append_assoc}
 use Rattle.std.specs.List.{slice_get}
 use Rattle.covers.specs.Held.{place, put, put_all, different, In, Counts}
 use Rattle.covers.proofs.Relaxing.{some_is, none_some}
-use Rattle.covers.proofs.Nths.{nth_below, nth_front, nth_back, nth_more}
+use Rattle.covers.proofs.Nths.{nth_front, nth_back, nth_more}
 
 -- ys is xs with more at its end
 abbrev pub Begins : {A : Type 0} → List A → List A → Type 0

@@ -7,9 +7,9 @@ use Rattle.cost.specs.Model.{Model, Laws}
 use Rattle.grammar.specs.Lists.{FormOf, chain, base0, base1, base2, Lists, Sealed}
 use Rattle.covers.specs.Trees.{count, Applied, Tree, node0, node1, node2, size, TreeFits}
 use Rattle.covers.specs.Covers.{source, RuleIs, Linked, Cover, cover0, cover1, cover2, Covers, cover_cost, Least, Fewest, Lowest, Choice, Chooses, LeastOfAll}
-use Rattle.covers.specs.Ranks.{Ranks, Best, at, choices, best, ranks_of, kid_ranks, choice}
+use Rattle.covers.specs.Ranks.{Ranks, Best, at, choices, best, ranks_of, kid_ranks}
 use Rattle.covers.specs.Rows.{entry, least_of_all, row}
-use Rattle.covers.specs.Steps.{left_kid, right_kid, best_chains, best_rule, follow, run_end, following, chosen, FollowsRun, Follows}
+use Rattle.covers.specs.Steps.{left_kid, right_kid, best_chains, best_rule, follow, run_end, following, FollowsRun, Follows}
 use Rattle.covers.specs.Theorems.{NoCover, Right, EntryIs, RowRight, ChosenRight, Alike}
 use Rattle.covers.proofs.Order.{cost_order, le_same}
 use Rattle.covers.proofs.Relaxing.{some_is, none_some}

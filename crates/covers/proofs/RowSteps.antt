@@ -6,7 +6,7 @@ use Rattle.grammar.specs.Lists.{FormOf, chain, base0, base1, base2, RuleOf, List
 use Rattle.covers.specs.Trees.{Applied, leaf, unary, binary, count, Tree, node0, node1, node2, size}
 use Rattle.covers.specs.Covers.{Least, LeastOfAll}
 use Rattle.covers.specs.Ranks.{Rank, Ranks, at, further, with1, with2, base_offer, chain_offer, relax, bases, round, rounds, ranked, ranks_of, kid_ranks, is_rank, offer, offers, first_from, choose, choices, best_of, best}
-use Rattle.covers.specs.Rounds.{light, Light}
+use Rattle.covers.specs.Rounds.{Light}
 use Rattle.covers.specs.Rows.{least_in, or_zero, least_of_all, entry, row_of, row, kid_rows, as_rank, as_ranks, row_from}
 use Rattle.covers.proofs.Relaxing.{some_is, none_some}
 use Rattle.covers.proofs.Closure.{Numbered, Held, further_some, held_fair, held_relax, held_round, held_none, closed_held}

@@ -1,8 +1,8 @@
 -- The steps of a cover: how many they are, what they add up to, and that they determine the cover.
-use Rattle.std.proofs.Common.{◌≡◌, ℕ, zero, ◌+◌, ◌*◌, ◌≤◌, List, [], ◌∷◌, ◌++◌, length, ℤ, sym, refl, ap, ◌∙◌, arith}
+use Rattle.std.proofs.Common.{◌≡◌, ℕ, ◌+◌, ◌*◌, ◌≤◌, List, [], ◌∷◌, ◌++◌, length, ℤ, sym, refl, ap, ◌∙◌, arith}
 use Rattle.std.proofs.lemmas.List.{length-append}
 use Rattle.cost.specs.Model.{Model, Laws}
-use Rattle.grammar.specs.Lists.{chain, base0, base1, base2, Lists, rule, Sealed}
+use Rattle.grammar.specs.Lists.{chain, base0, base1, base2, Lists, Sealed}
 use Rattle.covers.specs.Trees.{Tree, node0, node1, node2, size}
 use Rattle.covers.specs.Covers.{source, rule_cost, Linked, Run, Cover, cover0, cover1, cover2, Covers, run_cost, cover_cost}
 use Rattle.covers.specs.Steps.{Step, step, step_count, chain_steps, steps_after, steps, total_after, total}

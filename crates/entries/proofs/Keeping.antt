@@ -1,7 +1,7 @@
 -- What entries and ends say of the rows that they keep.
-use Rattle.std.proofs.Common.{◌≡◌, ℕ, zero, suc, ◌+◌, ◌*◌, ◌<◌, ◌≤◌, Bool, true, false, cond, ◌⊎◌, List, [], ◌∷◌, ◌++◌, map, length, get_or, Some, None, Option, sym, refl, ap, ◌∙◌, inl, inr, ⊎_elim, add-mul, one-mul, arith}
+use Rattle.std.proofs.Common.{◌≡◌, ℕ, zero, suc, ◌+◌, ◌*◌, ◌≤◌, Bool, true, false, cond, List, [], ◌∷◌, ◌++◌, map, length, Some, None, Option, sym, refl, ap, ◌∙◌, ⊎_elim, add-mul, one-mul, arith}
 use Rattle.std.proofs.lemmas.List.{length-map, length_push, map_push}
-use Rattle.std.proofs.lemmas.Bool.{cases_Bool, both_ways, true≢false}
+use Rattle.std.proofs.lemmas.Bool.{cases_Bool}
 use Rattle.std.specs.List.{slice_get}
 use Rattle.std.specs.Option.{option_map}
 use Rattle.cost.specs.Model.{Model, Laws}
@@ -13,8 +13,8 @@ use Rattle.covers.proofs.Relaxing.{some_is, none_some}
 use Rattle.table.specs.Keys.{place_of}
 use Rattle.entries.specs.declared.Entry.{Entry}
 use Rattle.entries.specs.declared.RowEnd.{RowEnd}
-use Rattle.entries.specs.Keys.{entry_key, end_key, same_link}
-use Rattle.entries.specs.Walks.{walk, Keeps, seen, row_place}
+use Rattle.entries.specs.Keys.{end_key, same_link}
+use Rattle.entries.specs.Walks.{walk, Keeps, row_place}
 use Rattle.entries.specs.Laws.{link_own, link_tells}
 use Rattle.entries.proofs.Seen.{seen_first, seen_none}
 use Rattle.entries.proofs.Walking.{walk_once}

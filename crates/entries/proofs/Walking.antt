@@ -1,5 +1,5 @@
 -- Walks: a row's end determines the row, and more entries leave the end.
-use Rattle.std.proofs.Common.{◌≡◌, ℕ, zero, suc, ◌+◌, ◌<◌, ◌≤◌, List, [], ◌∷◌, ◌++◌, length, get_or, Some, None, Option, sym, refl, ap, ◌∙◌, arith}
+use Rattle.std.proofs.Common.{◌≡◌, ℕ, suc, ◌+◌, List, [], ◌∷◌, ◌++◌, length, get_or, Some, None, Option, sym, refl, ap, ◌∙◌, arith}
 use Rattle.std.proofs.lemmas.List.{append-nil}
 use Rattle.std.proofs.lemmas.Option.{slice_get-get_or}
 use Rattle.std.specs.List.{slice_get}
@@ -11,7 +11,7 @@ use Rattle.table.specs.Keys.{place_of}
 use Rattle.table.proofs.Places.{place_held, place_push_held}
 use Rattle.entries.specs.declared.Entry.{Entry}
 use Rattle.entries.specs.Keys.{stands, as_choice, entry_after, entry_key}
-use Rattle.entries.specs.Walks.{entry_at, onward, walk, before_of, choice_in, back}
+use Rattle.entries.specs.Walks.{onward, walk, before_of, choice_in, back}
 use Rattle.entries.specs.Laws.{entry_tells}
 
 pub onward_some : {A B : Type 0} (o : Option A) (f : A → Option B) (y : B) → onward o f ≡ Some y → (x : A) × (o ≡ Some x) × (f x ≡ Some y)

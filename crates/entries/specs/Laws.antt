@@ -1,9 +1,8 @@
 -- Entries are the same exactly where they are equal, and so are ends.
-use Rattle.std.specs.Prelude.{◌≡◌, ℕ, Bool, true, false, cond, ◌&&◌, [], ◌∷◌, Some, None, Option, refl}
-use Rattle.std.proofs.Common.{arith, true≢false, sym, ap, ◌∙◌}
+use Rattle.std.specs.Prelude.{◌≡◌, ℕ, Bool, true, false, cond, [], ◌∷◌, Some, None, Option, refl}
+use Rattle.std.proofs.Common.{true≢false, sym, ap}
 use Rattle.std.proofs.lemmas.Bool.{and_parts, and_from, eqb-true, eq-eqb}
 use Rattle.cost.specs.Model.{Model, Laws}
-use Rattle.covers.specs.Held.{same_entry, same_row}
 use Rattle.covers.proofs.Relaxing.{some_is, none_some}
 use Rattle.covers.proofs.Labels.{same_row_tells}
 use Rattle.table.specs.Keys.{KeyLaws}
@@ -11,7 +10,7 @@ use Rattle.table.proofs.Places.{equal_laws}
 use Rattle.entries.specs.declared.Choice.{Choice}
 use Rattle.entries.specs.declared.Entry.{Entry}
 use Rattle.entries.specs.declared.RowEnd.{RowEnd}
-use Rattle.entries.specs.Keys.{stands, as_choice, entry_key, end_key, same_link, same_choice}
+use Rattle.entries.specs.Keys.{stands, entry_key, end_key, same_link, same_choice}
 
 pub link_own : (a : Option ℕ) → same_link a a ≡ true
 link_own None = refl

@@ -1,16 +1,12 @@
 -- What stands in the lists of a grammar, and the choices in the rows.
-use Rattle.std.proofs.Common.{◌≡◌, ℕ, zero, suc, ◌+◌, ◌-◌, ◌*◌, ◌<◌, ◌≤◌, List, [], map, length, get_or, Some, None, Option, sym, refl, ap, ◌∙◌, subst, arith}
-use Rattle.std.proofs.lemmas.List.{length-map, get_or_past}
-use Rattle.std.proofs.lemmas.Option.{slice_get-get_or, slice_get_past}
-use Rattle.std.specs.List.{slice_get}
+use Rattle.std.proofs.Common.{◌≡◌, ℕ, ◌+◌, ◌*◌, ◌<◌, ◌≤◌, List, [], length, Some, None, Option, sym, ap, ◌∙◌, subst, arith}
+use Rattle.std.proofs.lemmas.List.{get_or_past}
 use Rattle.cost.specs.Model.{Model}
-use Rattle.grammar.specs.Lists.{numbered}
 use Rattle.covers.specs.Nodes.{Node, subtrees_after, subtree}
 use Rattle.covers.specs.Ranks.{best}
 use Rattle.covers.specs.Rows.{cost_row}
 use Rattle.covers.specs.Trees.{Tree, count}
 use Rattle.covers.proofs.NodeTrees.{subtree_each, subtrees_length}
-use Rattle.covers.proofs.Nths.{nth_map}
 use Rattle.label.specs.Meaning.{choice_of}
 use Rattle.row.specs.Views.{row_in}
 use Rattle.plain.specs.declared.Plain.{Plain}

@@ -1,5 +1,5 @@
 -- What the work places and the kids' rows stand for.
-use Rattle.std.specs.Prelude.{ℕ, List, map, Option}
+use Rattle.std.specs.Prelude.{List, map, Option}
 use Rattle.std.specs.Option.{option_map}
 use Rattle.covers.specs.Trees.{Applied, leaf, unary, binary}
 use Rattle.covers.specs.Ranks.{Rank, Ranks, Best}

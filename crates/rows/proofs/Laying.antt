@@ -1,11 +1,11 @@
 -- The entries of a row, put one after another.
-use Rattle.std.proofs.Common.{◌≡◌, ℕ, ◌+◌, ◌<◌, ◌≤◌, Bool, true, false, cond, List, [], ◌∷◌, ◌++◌, length, get_or, take, Some, None, Ok, Err, Option, Result, sym, refl, ap, ◌∙◌, subst, ⊎_elim, arith}
+use Rattle.std.proofs.Common.{◌≡◌, ℕ, ◌+◌, ◌<◌, ◌≤◌, Bool, true, false, cond, List, [], ◌∷◌, ◌++◌, length, get_or, take, Some, None, Ok, Err, Option, Result, sym, refl, ap, ◌∙◌, ⊎_elim, arith}
 use Rattle.std.proofs.lemmas.List.{take_more, length-take, length-append}
 use Rattle.cost.specs.Model.{Model, Laws}
 use Rattle.covers.specs.Rows.{Row}
 use Rattle.table.specs.declared.Refusal.{Refusal}
 use Rattle.table.specs.declared.Table.{Table}
-use Rattle.table.specs.Keys.{place_of, adds, put_answer, put_keys}
+use Rattle.table.specs.Keys.{place_of, adds, put_keys}
 use Rattle.table.specs.Chains.{Means, Puts, room_of}
 use Rattle.table.proofs.Places.{place_cases, put_held, put_new, put_found}
 use Rattle.entries.specs.declared.Entry.{Entry}

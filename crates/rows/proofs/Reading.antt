@@ -1,5 +1,5 @@
 -- The entries of a row, read back from its end.
-use Rattle.std.proofs.Common.{◌≡◌, ℕ, zero, suc, ◌+◌, ◌-◌, ◌<◌, ◌≤◌, List, [], ◌∷◌, ◌++◌, length, get_or, Some, None, Option, sym, refl, ap, ◌∙◌, ⊎_elim, arith}
+use Rattle.std.proofs.Common.{◌≡◌, ℕ, zero, suc, ◌+◌, ◌-◌, ◌<◌, ◌≤◌, List, [], ◌∷◌, length, get_or, Some, None, Option, sym, refl, ap, ◌∙◌, ⊎_elim, arith}
 use Rattle.std.specs.List.{slice_get}
 use Rattle.std.proofs.lemmas.List.{append-nil, get_or_past, get_or-map, length-map}
 use Rattle.std.proofs.lemmas.Option.{slice_get-get_or, slice_get_past}
@@ -10,11 +10,9 @@ use Rattle.covers.specs.Rows.{Row}
 use Rattle.covers.proofs.Relaxing.{some_is}
 use Rattle.covers.proofs.Nths.{nth_below, nth_has}
 use Rattle.table.specs.declared.Slot.{Slot}
-use Rattle.table.specs.Chains.{stored_keys}
 use Rattle.table.proofs.Meaning.{means_stored}
 use Rattle.entries.specs.declared.Entry.{Entry}
 use Rattle.entries.specs.declared.RowEnd.{RowEnd}
-use Rattle.entries.specs.Keys.{entry_key, end_key}
 use Rattle.entries.specs.Walks.{entry_at, before_of, choice_in, back}
 use Rattle.entries.proofs.Walking.{back_walk}
 use Rattle.entries.proofs.Keeping.{keeps_count, keeps_label}

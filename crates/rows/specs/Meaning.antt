@@ -1,5 +1,5 @@
 -- The rows held, and what each call does to them.
-use Rattle.std.specs.Prelude.{◌≡◌, ℕ, ◌+◌, ◌/◌, ◌≤◌, min, Bool, true, false, cond, List, [], ◌∷◌, map, length, is_ok, Some, None, Ok, Option, Result, ◌==◌, slice_index_or}
+use Rattle.std.specs.Prelude.{◌≡◌, ℕ, ◌+◌, ◌/◌, ◌≤◌, min, false, cond, List, [], map, length, is_ok, Some, None, Ok, Option, Result, ◌==◌, slice_index_or}
 use Rattle.std.specs.List.{slice_get}
 use Rattle.cost.specs.Model.{Model}
 use Rattle.covers.specs.Held.{put, same_row}

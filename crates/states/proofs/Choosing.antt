@@ -1,5 +1,5 @@
 -- The rule chosen, read off a row; and states without any node.
-use Rattle.std.proofs.Common.{◌≡◌, ℕ, ◌≤◌, List, [], ◌∷◌, map, length, Some, None, Option, refl, ap, ◌∙◌}
+use Rattle.std.proofs.Common.{◌≡◌, ℕ, ◌≤◌, [], length, Some, None, Option, refl, ap, ◌∙◌}
 use Rattle.std.specs.Option.{option_map}
 use Rattle.cost.specs.Model.{Model}
 use Rattle.grammar.specs.Lists.{Lists, Sealed}

@@ -1,16 +1,16 @@
 -- How rows, keys and labels grow by one accepted node.
-use Rattle.std.proofs.Common.{◌≡◌, ℕ, zero, suc, ◌+◌, ◌<◌, ◌≤◌, Bool, true, false, cond, ◌⊎◌, List, [], ◌∷◌, ◌++◌, map, length, get_or, Some, None, Decides, Option, sym, refl, ap, ◌∙◌, subst, inl, inr, true≢false, arith}
+use Rattle.std.proofs.Common.{◌≡◌, ℕ, zero, suc, ◌<◌, ◌≤◌, Bool, true, false, cond, List, [], ◌∷◌, ◌++◌, length, get_or, Some, Decides, Option, sym, refl, ap, ◌∙◌, subst, inl, inr, arith}
 use Rattle.std.specs.List.{slice_get}
-use Rattle.std.proofs.lemmas.List.{length-append, map-append}
+use Rattle.std.proofs.lemmas.List.{map-append}
 use Rattle.cost.specs.Model.{Model, Laws}
 use Rattle.grammar.specs.Lists.{Lists, Sealed}
-use Rattle.covers.specs.Trees.{Applied, leaf, unary, binary, Tree, node0, node1, node2, size}
-use Rattle.covers.specs.Rows.{Row, row, row_from}
-use Rattle.covers.specs.Held.{Key, same_key, same_row, place, put, put_all, In, Accepted, kid_trees, rows_held, label, key, keys_held}
+use Rattle.covers.specs.Trees.{unary, binary, Tree, node0, node1, node2, size}
+use Rattle.covers.specs.Rows.{row, row_from}
+use Rattle.covers.specs.Held.{Key, same_key, same_row, place, put, In, Accepted, kid_trees, rows_held, label, key, keys_held}
 use Rattle.covers.proofs.Relaxing.{some_is, none_some}
 use Rattle.covers.proofs.Nths.{nth_below, nth_front, nth_more, nth_back, nth_map}
-use Rattle.covers.proofs.Places.{place_in, place_one, place_front, put_is, in_front, in_more, in_split, PutIs}
-use Rattle.covers.proofs.Labels.{same_row_tells, same_key_tells, row_held, label_at, label_row, rows_more, label_stays, key_same, key_stays, keys_more}
+use Rattle.covers.proofs.Places.{place_in, put_is, in_more}
+use Rattle.covers.proofs.Labels.{same_row_tells, same_key_tells, row_held, label_at, rows_more, label_stays, key_same, key_stays, keys_more}
 use Rattle.covers.proofs.RowSteps.{row_step0, row_step1, row_step2}
 use Rattle.states.specs.Leading.{row_of_label, key_rows, Leads}
 

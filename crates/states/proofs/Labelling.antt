@@ -1,6 +1,5 @@
 -- What asking for the label of a node does to the states, by what is held.
 use Rattle.std.proofs.Common.{◌≡◌, ℕ, suc, ◌<◌, ◌≤◌, Bool, true, false, cond, ◌⊎◌, List, [], ◌∷◌, ◌++◌, map, length, Some, None, Ok, Err, Option, Result, sym, refl, ap, ◌∙◌, subst, inl, inr, ⊎_elim, arith}
-use Rattle.std.specs.List.{slice_get}
 use Rattle.std.specs.Option.{option_map}
 use Rattle.std.proofs.lemmas.List.{length-map, map_push}
 use Rattle.std.proofs.lemmas.Bool.{cases_lt}
@@ -8,8 +7,8 @@ use Rattle.cost.specs.Model.{Model, Laws}
 use Rattle.grammar.specs.Lists.{Lists}
 use Rattle.covers.specs.Trees.{Tree, count, size}
 use Rattle.covers.specs.Rows.{Row, row}
-use Rattle.covers.specs.Held.{Key, same_key, same_row, put, In, Accepted, kid_trees, rows_held, label, key}
-use Rattle.covers.proofs.Relaxing.{some_is, none_some}
+use Rattle.covers.specs.Held.{same_key, same_row, put, In, Accepted, kid_trees, rows_held, label, key}
+use Rattle.covers.proofs.Relaxing.{none_some}
 use Rattle.covers.proofs.Nths.{nth_below, nth_front, nth_more}
 use Rattle.label.specs.declared.refusals.NoRoom.{NoRoom}
 use Rattle.label.specs.declared.refusals.NoRoom.TheVariants.{Keys as NoKeys, Rows as NoRows}

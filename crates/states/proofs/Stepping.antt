@@ -1,12 +1,12 @@
 -- What one more node does to rows, keys and labels, by what is held.
-use Rattle.std.proofs.Common.{◌≡◌, ℕ, suc, ◌<◌, ◌≤◌, Bool, true, false, cond, not, ◌&&◌, ltb, leb, List, [], ◌∷◌, ◌++◌, map, length, Some, None, Decides, Option, sym, refl, ap, ◌∙◌, subst, true≢false, arith}
+use Rattle.std.proofs.Common.{◌≡◌, ℕ, suc, ◌<◌, ◌≤◌, Bool, true, false, cond, not, ◌&&◌, leb, List, [], ◌∷◌, ◌++◌, length, Some, None, Decides, Option, sym, refl, ap, ◌∙◌, subst, true≢false, arith}
 use Rattle.std.specs.List.{slice_get}
 use Rattle.std.proofs.lemmas.List.{length-map}
 use Rattle.std.proofs.lemmas.Bool.{lt-ltb, le-ltb, le-leb, lt-leb}
 use Rattle.cost.specs.Model.{Model, Laws}
 use Rattle.grammar.specs.Lists.{Lists, Sealed}
 use Rattle.covers.specs.Trees.{Tree, size}
-use Rattle.covers.specs.Rows.{Row, row}
+use Rattle.covers.specs.Rows.{row}
 use Rattle.covers.specs.Held.{Key, same_key, same_row, place, put, In, Accepted, rows_held, label, key, keys_held}
 use Rattle.covers.proofs.Relaxing.{some_is, none_some}
 use Rattle.covers.proofs.Nths.{nth_map}
@@ -17,7 +17,7 @@ use Rattle.label.specs.declared.refusals.NoRoom.{NoRoom}
 use Rattle.label.specs.declared.refusals.NoRoom.TheVariants.{Keys, Rows}
 use Rattle.states.specs.Leading.{Leads, led}
 use Rattle.states.specs.Room.{is_held, key_held, row_held, lack, Next}
-use Rattle.states.proofs.Growth.{place_below, place_absent, place_put, rows_next, label_next, leads_to, row_is_held, rows_same, leads_same, leads_more}
+use Rattle.states.proofs.Growth.{place_below, place_absent, rows_next, label_next, leads_to, row_is_held, rows_same, leads_same, leads_more}
 use Rattle.states.proofs.Finding.{led_at, led_nowhere}
 
 module _ {A : Type 0} (same : A → A → Bool) (tells : (a b : A) → Decides (same a b) (a ≡ b)) where

@@ -1,12 +1,11 @@
 -- The row of a key from the rows of its labels, and how it is kept.
-use Rattle.std.proofs.Common.{◌≡◌, ℕ, ◌<◌, ◌≤◌, true, cond, eqb, ltb, List, [], ◌∷◌, map, length, get_or, Some, None, Ok, Err, Option, Result, sym, refl, ap, ◌∙◌, subst, arith, Bor}
+use Rattle.std.proofs.Common.{◌≡◌, ℕ, ◌<◌, ◌≤◌, cond, List, [], map, length, get_or, Some, None, Ok, Err, sym, refl, ap, ◌∙◌, arith, Bor}
 use Rattle.std.proofs.lemmas.Bool.{lt-ltb, eq-eqb}
 use Rattle.cost.specs.Model.{Model}
-use Rattle.covers.specs.Held.{put, same_row}
 use Rattle.covers.specs.Rows.{Row, as_rank, as_ranks}
-use Rattle.covers.specs.Trees.{Applied, unary, binary}
+use Rattle.covers.specs.Trees.{unary, binary}
 use Rattle.covers.proofs.Relaxing.{some_is, none_some}
-use Rattle.row.specs.Views.{applied, costs_of, no_chains}
+use Rattle.row.specs.Views.{applied, costs_of}
 use Rattle.row.proofs.Costs.{costs_as_ranks}
 use Rattle.table.specs.declared.Refusal.{Refusal}
 use Rattle.table.specs.declared.Refusal.TheVariants.{Full}
@@ -16,7 +15,6 @@ use Rattle.rows.specs.declared.held.Rows.{Rows}
 use Rattle.rows.specs.declared.kid.HeldRow.{HeldRow}
 use Rattle.rows.specs.Kids.{row_of}
 use Rattle.rows.specs.Meaning.{Holds, PutsRow, rows_room, room_for_row}
-use Rattle.label.specs.declared.refusals.NoRoom.{NoRoom}
 use Rattle.label.specs.declared.refusals.NoRoom.TheVariants.{Rows as NoRows}
 use Rattle.states.specs.declared.transition.NodeKey.{NodeKey}
 use Rattle.states.specs.declared.transition.NodeKey.TheVariants.{Leaf, Unary, Binary}

@@ -1,7 +1,7 @@
-use Rattle.std.proofs.Common.{◌≡◌, ◌+◌, ◌-◌, None, sym, ap, ◌∙◌, arith}
+use Rattle.std.proofs.Common.{◌≡◌, ◌+◌, ◌-◌, sym, ap, ◌∙◌, arith}
 use Rattle.rows.specs.Meaning.{keys_in}
 use Rattle.entries.specs.Keys.{stands}
-use Rattle.entries.specs.Walks.{entry_at, before_of, choice_in}
+use Rattle.entries.specs.Walks.{before_of, choice_in}
 use Rattle.rows.proofs.Reading.{spin, spin_more, reads}
 use Rattle.rows.proofs.walks.choice_back.Goals as goal
 

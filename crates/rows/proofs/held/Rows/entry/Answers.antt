@@ -1,4 +1,4 @@
-use Rattle.std.proofs.Common.{◌≡◌, Some, None, ap, ◌∙◌}
+use Rattle.std.proofs.Common.{◌≡◌, None, ap, ◌∙◌}
 use Rattle.covers.specs.Ranks.{at}
 use Rattle.table.specs.Chains.{stored_keys}
 use Rattle.entries.specs.Keys.{stands}

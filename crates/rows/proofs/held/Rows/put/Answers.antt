@@ -1,4 +1,4 @@
-use Rattle.std.proofs.Common.{◌≡◌, ℕ, ◌+◌, ◌<◌, ◌≤◌, ◌⊎◌, length, Ok, Err, sym, refl, ◌∙◌, inl, inr, ⊎_elim, arith}
+use Rattle.std.proofs.Common.{◌≡◌, ℕ, ◌+◌, ◌<◌, ◌≤◌, length, sym, refl, ◌∙◌, inl, inr, arith}
 use Rattle.row.specs.Views.{row_in}
 use Rattle.table.specs.Chains.{room_of}
 use Rattle.rows.specs.Meaning.{rows_room}

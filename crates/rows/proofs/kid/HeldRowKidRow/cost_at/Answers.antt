@@ -2,7 +2,6 @@ use Rattle.std.proofs.Common.{ℕ, sym, refl, ap, ◌∙◌}
 use Rattle.std.specs.Option.{option_map}
 use Rattle.covers.specs.Ranks.{at}
 use Rattle.covers.proofs.Shifts.{at_map}
-use Rattle.row.specs.Views.{costs_of}
 use Rattle.rows.specs.Meaning.{keys_in, row_back}
 use Rattle.rows.specs.Kids.{row_of}
 use Rattle.rows.proofs.kid.HeldRowKidRow.cost_at.Goals as goal

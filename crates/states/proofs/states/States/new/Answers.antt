@@ -1,4 +1,4 @@
-use Rattle.std.proofs.Common.{◌≡◌, ◌≤◌, length, sym, refl, ap, ◌∙◌, arith}
+use Rattle.std.proofs.Common.{◌≡◌, length, sym, refl, ap, ◌∙◌, arith}
 use Rattle.covers.specs.Trees.{count}
 use Rattle.table.specs.Chains.{room_of, room_for}
 use Rattle.rows.specs.Meaning.{rows_room, rows_in}
