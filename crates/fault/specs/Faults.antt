@@ -9,7 +9,6 @@ use Rattle.grammar.specs.declared.refusal.Part.{Part}
 use Rattle.grammar.specs.declared.refusal.Part.TheVariants.{Kids, Left, Operator, FirstKid, SecondKid, Source}
 use Rattle.grammar.specs.declared.refusal.DraftRefusal.{DraftRefusal}
 use Rattle.grammar.specs.declared.refusal.DraftRefusal.TheVariants.{Repeated, Undeclared, Unfit, Full, OwnSource, Unpriced}
-use Rattle.fault.specs.declared.LineRefusal.{LineRefusal}
 use Rattle.fault.specs.declared.LineRefusal.TheVariants.{TooLong, Unknown, Miscounted}
 use Rattle.fault.specs.declared.Refusal.{Refusal}
 use Rattle.fault.specs.declared.Refusal.TheVariants.{File, Line, Field, Draft}

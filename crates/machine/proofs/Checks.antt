@@ -1,12 +1,12 @@
 -- A line is refused by the first of its checks that fails.
-use Rattle.std.proofs.Common.{◌≡◌, ℕ, zero, suc, ◌+◌, ◌<◌, ◌≤◌, Bool, true, false, cond, not, eqb, ltb, List, [], ◌∷◌, ◌++◌, length, Some, None, Ok, Err, codes, Option, Result, sym, refl, ap, ◌∙◌, arith}
+use Rattle.std.proofs.Common.{◌≡◌, ℕ, suc, Bool, true, false, not, eqb, ltb, List, [], ◌∷◌, ◌++◌, length, Some, None, Ok, Err, codes, Option, Result, sym, refl, ◌∙◌, arith}
 use Rattle.std.specs.Option.{option_map, ok_or}
 use Rattle.std.specs.Result.{result_err}
 use Rattle.std.specs.Str.{bytes_eq}
 use Rattle.std.proofs.lemmas.Bool.{eqb-true, not-false}
 use Rattle.cost.specs.Model.{Model}
 use Rattle.name.specs.Outcomes.{and_then, map_err}
-use Rattle.entry.specs.Entries.{EntryOf, word, some_left, kind_of, width, kind_fields, kind_entry, fields_entry, entry_of, make_of, labelling_of, header_fields, header_of, longest_line}
+use Rattle.entry.specs.Entries.{EntryOf, word, some_left, kind_of, width, kind_fields, kind_entry, fields_entry, entry_of, make_of, labelling_of, header_of, longest_line}
 use Rattle.entry.specs.declared.kind.Kind.{Kind}
 use Rattle.entry.specs.declared.kind.Kind.TheVariants.{Operator, Nonterminal, Base, Chain}
 use Rattle.fault.specs.Faults.{too_long, unknown, miscounted, field_fault, draft_fault}
@@ -18,9 +18,8 @@ use Rattle.field.specs.Readers.{rest}
 use Rattle.field.specs.declared.fault.FieldFault.{FieldFault}
 use Rattle.grammar.specs.Drafting.{refuse_if}
 use Rattle.grammar.specs.Lists.{Text, Lists}
-use Rattle.grammar.specs.declared.refusal.DraftRefusal.{DraftRefusal}
 use Rattle.machine.specs.Files.{drafted, taken}
-use Rattle.machine.specs.Readings.{first, when, unless, check, kind_checks, at_fields, field_checks, line_checks, header_checks, draft_check, all_checks}
+use Rattle.machine.specs.Readings.{first, when, unless, kind_checks, at_fields, field_checks, line_checks, header_checks, draft_check, all_checks}
 
 -- the error of an outcome, with another error
 err_map : {A D E : Type 0} (f : D → E) (r : Result A D) → result_err (map_err f r) ≡ option_map f (result_err r)

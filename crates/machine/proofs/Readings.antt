@@ -1,5 +1,5 @@
 -- What reading a whole file means.
-use Rattle.std.proofs.Common.{◌≡◌, ℕ, ◌<◌, ◌≤◌, Bool, true, false, ltb, ◌⊎◌, List, [], ◌∷◌, length, Some, None, Ok, Err, Option, Result, sym, refl, ap, ◌∙◌, inl, inr, arith}
+use Rattle.std.proofs.Common.{◌≡◌, ℕ, ◌<◌, ◌≤◌, Bool, true, false, ltb, ◌⊎◌, List, [], ◌∷◌, length, None, Ok, Err, Result, sym, refl, ap, ◌∙◌, inl, inr, arith}
 use Rattle.std.specs.Result.{result_err}
 use Rattle.std.proofs.lemmas.Bool.{ltb-true, ltb-false, lt-ltb, le-ltb}
 use Rattle.cost.specs.Counts.{count_model}
@@ -13,9 +13,9 @@ use Rattle.fault.specs.declared.LineRefusal.TheVariants.{Unknown}
 use Rattle.fault.specs.declared.MachineFault.{MachineFault}
 use Rattle.fault.specs.declared.Refusal.TheVariants.{File, Line}
 use Rattle.grammar.specs.Drafting.{refuse_if, empty}
-use Rattle.grammar.specs.Lists.{Text, Lists}
+use Rattle.grammar.specs.Lists.{Text}
 use Rattle.tariff.specs.Tariffs.{counted, cycles_first}
-use Rattle.machine.specs.Files.{all_taken, in_line, in_file, lines_of, longest_file, pairs, MachineOf, bytes_machine, cycles_machine, machine_in, first_of, machine_of}
+use Rattle.machine.specs.Files.{in_line, in_file, lines_of, longest_file, pairs, MachineOf, bytes_machine, cycles_machine, machine_in, first_of, machine_of}
 use Rattle.machine.specs.Readings.{first, header_checks, Makes, Faults, Accepted, HeaderFault, LaterFault, Refused, Reading}
 use Rattle.machine.proofs.Checks.{header_first}
 use Rattle.machine.proofs.Meaning.{clash, err_is, lines_mean}

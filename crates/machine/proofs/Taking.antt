@@ -1,5 +1,5 @@
 -- One line more of a file.
-use Rattle.std.proofs.Common.{◌≡◌, ℕ, List, [], ◌∷◌, Ok, Err, Result, sym, refl, ap, ◌∙◌, arith, MatchResult}
+use Rattle.std.proofs.Common.{◌≡◌, ℕ, List, [], ◌∷◌, Ok, Err, Result, refl, ap, ◌∙◌, arith, MatchResult}
 use Rattle.cost.specs.Model.{Model}
 use Rattle.name.specs.Outcomes.{and_then, map_err}
 use Rattle.grammar.specs.Lists.{Text, Lists}

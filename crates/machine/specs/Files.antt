@@ -1,5 +1,5 @@
 -- A whole machine file: its lines with content are taken one by one, up to the first fault.
-use Rattle.std.specs.Prelude.{ℕ, ◌+◌, cond, List, [], ◌∷◌, length, Ok, Err, Result, nat_lt}
+use Rattle.std.specs.Prelude.{ℕ, ◌+◌, List, [], ◌∷◌, length, Ok, Err, Result, nat_lt}
 use Rattle.cost.specs.Counts.{count_model}
 use Rattle.cost.specs.Model.{Model}
 use Rattle.cost.specs.Pairs.{pair_model}

@@ -1,6 +1,6 @@
 -- What reading a machine file means: a line is refused by the first of its checks that fails, a file is accepted where no check
 -- of any line fails, and its fault is that of the first line that is refused.
-use Rattle.std.specs.Prelude.{◌≡◌, ℕ, ◌+◌, ◌<◌, ◌≤◌, Bool, true, false, cond, not, ◌⊎◌, List, [], ◌∷◌, ◌++◌, length, Some, None, Ok, Err, codes, Option, Result, ◌==◌, nat_lt}
+use Rattle.std.specs.Prelude.{◌≡◌, ℕ, ◌+◌, ◌<◌, ◌≤◌, Bool, cond, not, ◌⊎◌, List, [], ◌∷◌, ◌++◌, length, Some, None, Ok, Err, codes, Option, Result, ◌==◌, nat_lt}
 use Rattle.std.specs.Option.{option_map}
 use Rattle.std.specs.Result.{result_err}
 use Rattle.std.specs.Str.{bytes_eq}
@@ -24,7 +24,7 @@ use Rattle.field.specs.declared.fault.FieldFault.{FieldFault}
 use Rattle.grammar.specs.Drafting.{empty}
 use Rattle.grammar.specs.Lists.{Text, Lists}
 use Rattle.tariff.specs.Tariffs.{counted, cycles_first}
-use Rattle.machine.specs.Files.{drafted, taken, all_taken, in_line, in_file, lines_of, longest_file, pairs, MachineOf, bytes_machine, cycles_machine, machine_of}
+use Rattle.machine.specs.Files.{drafted, all_taken, in_line, in_file, lines_of, longest_file, pairs, MachineOf, bytes_machine, cycles_machine, machine_of}
 
 -- a check answers the fault that it finds, or none; the first that finds one
 abbrev pub first : {A : Type 0} → List (Option A) → Option A

@@ -4,18 +4,18 @@ use Rattle.machine.specs.Files.{pairs}
 use Rattle.machine.proofs.Emptiness.{lists_empty, priced_empty}
 use Rattle.machine.proofs.into.read_in_drafts.Goals as goal
 
-pub returns-in-err-grammar : goal.returns-in-err-grammar
-returns-in-err-grammar c = let e = lists_empty _ c.args.drafts.no_bytes in search rules
+pub returns-in_err-grammar-in-Bytes : goal.returns-in_err-grammar-in-Bytes
+returns-in_err-grammar-in-Bytes c = let e = lists_empty _ c.args.drafts.no_bytes in search rules
 
-pub returns-in-err-grammar-2 : goal.returns-in-err-grammar-2
-returns-in-err-grammar-2 c = let e = lists_empty _ c.args.drafts.no_cycles in search rules
+pub returns-in_err-grammar-in-Cycles : goal.returns-in_err-grammar-in-Cycles
+returns-in_err-grammar-in-Cycles c = let e = lists_empty _ c.args.drafts.no_cycles in search rules
 
-pub returns-in-ok-grammar : goal.returns-in-ok-grammar
-returns-in-ok-grammar c =
+pub returns-in_ok-grammar-in-Bytes : goal.returns-in_ok-grammar-in-Bytes
+returns-in_ok-grammar-in-Bytes c =
     let e = lists_empty _ c.args.drafts.no_bytes in
-    record { value = search rules; sealed = c.in-ok-grammar.ensures.sealed (priced_empty _ count_model c.args.drafts.no_bytes) }
+    record { value = search rules; sealed = c.in_ok-grammar-in-Bytes.ensures.sealed (priced_empty _ count_model c.args.drafts.no_bytes) }
 
-pub returns-in-ok-grammar-2 : goal.returns-in-ok-grammar-2
-returns-in-ok-grammar-2 c =
+pub returns-in_ok-grammar-in-Cycles : goal.returns-in_ok-grammar-in-Cycles
+returns-in_ok-grammar-in-Cycles c =
     let e = lists_empty _ c.args.drafts.no_cycles in
-    record { value = search rules; sealed = c.in-ok-grammar-2.ensures.sealed (priced_empty _ pairs c.args.drafts.no_cycles) }
+    record { value = search rules; sealed = c.in_ok-grammar-in-Cycles.ensures.sealed (priced_empty _ pairs c.args.drafts.no_cycles) }

@@ -2,9 +2,9 @@ use Rattle.std.proofs.Common.{arith}
 use Rattle.machine.specs.Files.{numbered}
 use Rattle.machine.proofs.lines.next_line.Goals as goal
 
-pub returns-then-not-is-empty : goal.returns-then-not-is-empty
+pub returns-then-not-is_empty : goal.returns-then-not-is_empty
 unfolding numbered
-returns-then-not-is-empty c = grind arith
+returns-then-not-is_empty c = grind arith
 
 pub loop-part-preserved : goal.loop-part-preserved
 unfolding numbered
