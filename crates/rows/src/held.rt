@@ -110,7 +110,7 @@ impl<'a, C: Cost> Rows<'a, C> {
         ensures means { (rows : List (Row C)) → Holds C.Cost.model self.now rows → stands result ≡ at (row_at rows label) n }
     {
         match self.end(label) {
-            Some(end) => choice_back(self.entries.stored(), end.0, n, self.width),
+            Some(end) => choice_back(self.entries.stored_slots(), end.0, n, self.width),
             None => None,
         }
     }
@@ -128,7 +128,7 @@ impl<'a, C: Cost> Rows<'a, C> {
         ensures means { (rows : List (Row C)) → Holds C.Cost.model self.now rows → row_of result ≡ row_at rows label }
     {
         HeldRow {
-            entries: self.entries.stored(),
+            entries: self.entries.stored_slots(),
             end: self.end(label),
             width: self.width,
         }

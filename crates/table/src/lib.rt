@@ -184,7 +184,11 @@ impl<'a, K: Key + Drop> Table<'a, K> {
     pub fn key_at(&self, place: usize) -> Option<&K>
         ensures { (keys : List K) → Means K.Key.model self.now keys → option_map (λ k. k.now) result ≡ slice_get keys place }
     {
-        self.stored_key(place)
+        if place < self.count() {
+            Some(self.stored(place))
+        } else {
+            None
+        }
     }
 
     /// The key in a slot that holds one. It speaks of the memory alone, so that a type may say by it what it means.
@@ -200,7 +204,7 @@ impl<'a, K: Key + Drop> Table<'a, K> {
     }
 
     /// The slots that hold the keys of the list, in order.
-    pub fn stored(&self) -> &[Slot<K>]
+    pub fn stored_slots(&self) -> &[Slot<K>]
         ensures { map (λ s. s.key) result.now ≡ stored_keys self.now }
     {
         let slots = &*self.slots;
@@ -248,6 +252,15 @@ impl<'a, K: Key + Drop> Table<'a, K> {
     {
         link(self.slots, place, bucket, key);
         self.len = place + 1;
+    }
+
+    // The key in a slot.
+    fn stored(&self, place: usize) -> &K
+        requires { place < length (slots_of self.now) }
+        ensures { (keys : List K) → Means K.Key.model self.now keys → place < length keys → Some result.now ≡ slice_get keys place }
+    {
+        let slots = &*self.slots;
+        &slots[place].key
     }
 
     // The link from a slot to the place before it in its bucket.

@@ -1,7 +1,7 @@
-use Rattle.std.proofs.Common.{ap, ◌∙◌}
-use Rattle.std.specs.List.{slice_get}
-use Rattle.table.proofs.Meaning.{means_stored}
+use Rattle.std.proofs.Common.{sym, arith}
+use Rattle.std.proofs.lemmas.Option.{slice_get_past}
 use Rattle.table.proofs.Table.key_at.Goals as goal
 
-pub returns : goal.returns
-returns g c keys h = c.stored_key.ensures ∙ ap (λ ks. slice_get ks c.args.place) (means_stored c.args.self.now keys h)
+pub returns-else-place-count : goal.returns-else-place-count
+returns-else-place-count g c keys h =
+    sym (slice_get_past keys c.args.place (omega (arith, c.count.ensures.means keys h)))

@@ -1,8 +1,10 @@
-use Rattle.std.proofs.Common.{map, sym, ap}
-use Rattle.std.proofs.lemmas.List.{take_all}
+use Rattle.std.proofs.Common.{Some, sym, ap, ◌∙◌}
+use Rattle.std.proofs.lemmas.Option.{slice_get-get_or}
+use Rattle.table.proofs.Chains.{key_stored}
 use Rattle.table.proofs.Table.stored.Goals as goal
 
-pub returns-else-self-slots : goal.returns-else-self-slots
-returns-else-self-slots g c =
-    let t = c.args.self.now in
-    sym (ap (map (λ s. s.key)) (take_all t.len t.slots.now c.if-self-slots.false))
+pub returns : goal.returns
+returns g c keys h l =
+    let d = c.index-slots-place.result in
+    ap (λ k. Some k) (sym (key_stored c.args.self.now.slots.now keys h.stored c.args.place d d.key l))
+    ∙ sym (slice_get-get_or keys c.args.place d.key l)

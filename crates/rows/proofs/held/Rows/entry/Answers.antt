@@ -10,7 +10,7 @@ pub returns-in-Some : goal.returns-in-Some
 returns-in-Some g c =
     let v = c.args.self.now in
     let n = c.args.n in
-    let read : stands c.choice_back.result ≡ at (stored_row v c.args.label) n = c.choice_back.ensures ∙ (λ i. at (row_back (c.stored.ensures i) v.width (c.in-Some.ensures i)) n) in
+    let read : stands c.choice_back.result ≡ at (stored_row v c.args.label) n = c.choice_back.ensures ∙ (λ i. at (row_back (c.stored_slots.ensures i) v.width (c.in-Some.ensures i)) n) in
     record { stored = read; means = λ rows h. read ∙ ap (λ x. at x n) (stored_is g.met.C.Cost.laws v rows h c.args.label) }
 
 pub returns-in-None : goal.returns-in-None
