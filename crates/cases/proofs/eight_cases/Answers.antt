@@ -10,4 +10,4 @@ use Rattle.cases.proofs.eight_cases.Goals as goal
 
 pub returns : goal.returns
 unfolding all_by is_name digits_from digits_of place_of split_at first_of take_by rest place_from numbered all_taken
-returns c = record { read_in_bytes = refl; read_in_cycles = refl; cases = c.example-machine.ensures; below_half = refl; half = refl; room_for_first = refl; first_label = refl; no_room_for_second_row = refl; room_for_first_again = refl; first_label_again = refl }
+returns c = record { read_in_bytes = refl; read_in_cycles = refl; cases = c.example_machine.ensures; below_half = refl; half = refl; room_for_first = refl; first_label = refl; no_room_for_second_row = refl; room_for_first_again = refl; first_label_again = refl }
