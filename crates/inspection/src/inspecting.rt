@@ -21,9 +21,9 @@ fn push_lines<C, T: Listed<C>>(
     items: &[T],
 ) -> Result<(), AllocError>
     requires { first ≤ 1 }
-    ensures { OnOk result (text.new.items ≡ text.old.items ++ lines_text (written (declared_lists declarations.now)) first items.now) }
+    ensures { OnOk result (text.new.items ≡ text.old.items ++ lines_text (T.Listed.written (declared_lists declarations.now)) first items.now) }
 {
-    let heap = text.allocator();
+    let heap = *text.allocator();
     for (i, item) in items.iter().enumerate() {
         let line = ended(item.line(heap, declarations, first + i)?)?;
         text.extend_from_slice(&line)?;

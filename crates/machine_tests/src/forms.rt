@@ -120,8 +120,9 @@ static ITEMS: [Item; 18] = [
 
 // The item is the second field of its line.
 fn check_item(rt: &impl Abort, text: &[u8], item: &Item) -> Result<(), Fail> {
+    let tried = item.0;
     let mut fields = LineReader::new(text, b',');
-    assert!(rt; fields.name()?.is(b"goal"));
+    assert!(rt; fields.name()?.is(b"goal"), "{tried}");
     match (fields.item(), item.1) {
         (
             Ok(
@@ -132,17 +133,17 @@ fn check_item(rt: &impl Abort, text: &[u8], item: &Item) -> Result<(), Fail> {
             ),
             Ok((name, number)),
         ) => {
-            assert_eq!(rt; place, 2);
-            assert!(rt; operator == name.as_bytes());
-            assert_eq!(rt; payload, number);
+            assert_eq!(rt; place, 2, "{tried}");
+            assert!(rt; operator == name.as_bytes(), "{tried}");
+            assert_eq!(rt; payload, number, "{tried}");
             Ok(())
         }
         (Err(fault), Err(refusal)) => {
-            assert_eq!(rt; fault.place, 2);
-            assert_eq!(rt; fault.refusal, refusal);
+            assert_eq!(rt; fault.place, 2, "{tried}");
+            assert_eq!(rt; fault.refusal, refusal, "{tried}");
             Ok(())
         }
-        _ => Err(Fail::new("wrong outcome")),
+        _ => Err(Fail::new(format_args!("{tried}: wrong outcome"))),
     }
 }
 
@@ -151,7 +152,7 @@ fn items(rt: HostRuntime) -> Result<(), Fail> {
     for item in &ITEMS {
         let text = item.0;
         let line = format!(in rt.alloc(); "goal,{text}")?;
-        check_item(&rt, line.as_bytes(), item).note(text)?;
+        check_item(&rt, line.as_bytes(), item)?;
     }
     Ok(())
 }

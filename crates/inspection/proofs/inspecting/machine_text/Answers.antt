@@ -6,5 +6,5 @@ use Rattle.inspection.proofs.inspecting.machine_text.Goals as goal
 
 pub returns-in-Cycles : goal.returns-in-Cycles
 returns-in-Cycles c =
-    let P : Machine → Type 0 = λ m. IfOk c.grammar-text_in-Cycles.result (λ v. vec_items v ≡ machine_text (machine_view m)) in
-    subst P (sym c.in-Cycles.is) c.grammar-text_in-Cycles.ensures
+    let P : Machine → Type 0 = λ m. IfOk c.grammar_text-in-Cycles.result (λ v. vec_items v ≡ machine_text (machine_view m)) in
+    subst P (sym c.in-Cycles.is) c.grammar_text-in-Cycles.ensures

@@ -7,7 +7,7 @@ use Rattle.inspection.proofs.names.nonterminal_name.Goals as goal
 pub returns-in-Some : goal.returns-in-Some
 returns-in-Some g c =
     let f = c.in-Some.ensures.lookup in
-    c.as-bytes.ensures ∙ sym (ap (λ (o : Option Text). unwrap_or o []) (some_at nonterminal_of _ _ c.nonterminals.ensures c.args.nonterminal.0 _ f.3.0 f.1))
+    c.as_bytes.ensures ∙ sym (ap (λ (o : Option Text). unwrap_or o []) (some_at nonterminal_of _ _ c.nonterminals.ensures c.args.nonterminal.0 _ f.3.0 f.1))
 
 pub returns-in-None : goal.returns-in-None
 returns-in-None g c =

@@ -8,7 +8,7 @@ use Rattle.inspection.proofs.names.operator_name.Goals as goal
 pub returns-in-Some : goal.returns-in-Some
 returns-in-Some g c =
     let f = c.in-Some.ensures.lookup in
-    c.as-bytes.ensures ∙ sym (ap (λ (o : Option OperatorOf). unwrap_or (option_map (λ (x : OperatorOf). x.name) o) []) (some_at operator_of _ _ c.operators.ensures c.args.operator.0 _ f.3.0 f.1))
+    c.as_bytes.ensures ∙ sym (ap (λ (o : Option OperatorOf). unwrap_or (option_map (λ (x : OperatorOf). x.name) o) []) (some_at operator_of _ _ c.operators.ensures c.args.operator.0 _ f.3.0 f.1))
 
 pub returns-in-None : goal.returns-in-None
 returns-in-None g c =
