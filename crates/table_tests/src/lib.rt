@@ -133,7 +133,7 @@ pub trait Store: Sized {
 
     fn enter(&mut self, key: NodeKey, cost: Self::Cost) -> Result<usize, Refusal>
         ensures entered { (ns : List NodeKeyOf) → keeps self.old ns → Entered (keeps self.new) (places self.old) ns key result }
-        ensures self_unchanged { places self.new ≡ places self.old };
+        ensures places_kept { places self.new ≡ places self.old };
 
     fn find(&self, key: &NodeKey) -> Option<usize>
         ensures { (ns : List NodeKeyOf) → keeps self.now ns → result ≡ place_of node_key ns key.now };

@@ -9,5 +9,5 @@ returns g c = record {
       let e = c.enter.ensures.enters ns h.0 h.1 in
       entered (Keeps g.C.Cost.model c.enter.new.self) _ c.enter.result
       (room_of c.args.self.now.nodes) ns c.args.key e.answer (_, e.holds);
-  self_unchanged = c.enter.ensures.room;
+  places_kept = c.enter.ensures.room;
 }
