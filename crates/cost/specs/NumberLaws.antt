@@ -1,10 +1,10 @@
 -- The laws of a make of cost whose values are integers, for any rule that leaves what fits as it is.
 use Rattle.std.specs.Prelude.{◌≡◌, ◌+◌, ◌<◌, ◌≤◌, ℤ, pos, ◌+ℤ◌, ◌-ℤ◌, ◌<ℤ◌, unsigned_abs, refl}
-use Rattle.std.specs.declared.cmp.Ordering.TheVariants.{Less, Equal}
+use Rattle.std.specs.declared.cmp.Ordering.TheVariants.{Less}
 use Rattle.std.proofs.Common.{sym, ap, ◌∙◌, arith}
 use Rattle.std.proofs.Math.IntN.{+ℤ_comm, +ℤ_assoc}
 use Rattle.std.proofs.lemmas.Int.{ints}
-use Rattle.std.specs.Cmp.{int_cmp_total}
+use Rattle.std.specs.Cmp.{int_cmp_is, int_cmp_total}
 use Rattle.cost.specs.Model.{Model, Laws, limit}
 use Rattle.std.specs.Ordering.{int_cmp}
 
@@ -13,15 +13,6 @@ sum_abs a b = omega (arith, ints)
 
 diff_abs : (a b : ℤ) → unsigned_abs (a -ℤ b) ≤ unsigned_abs a + unsigned_abs b
 diff_abs a b = omega (arith, ints)
-
-below : (x y : ℤ) → int_cmp x y ≡ Less → x <ℤ y
-below x y e = grind (arith, ints)
-
-below_is : (x y : ℤ) → x <ℤ y → int_cmp x y ≡ Less
-below_is x y h = grind (arith, ints)
-
-level : (x y : ℤ) → int_cmp x y ≡ Equal → x ≡ y
-level x y e = grind (arith, ints)
 
 -- fit z is what the make takes for the integer z: z itself, where it is small
 module _ (fit : ℤ → ℤ) (fit_is : (z : ℤ) → unsigned_abs z < 2147483648 → fit z ≡ z) where
@@ -61,15 +52,15 @@ module _ (fit : ℤ → ℤ) (fit_is : (z : ℤ) → unsigned_abs z < 2147483648
   keeps a b c h e =
       let p = fit_sum a c (omega arith) in
       let q = fit_sum b c (omega arith) in
-      let l : a <ℤ b = below a b e in
+      let l : a <ℤ b = grind (arith, ints) in
       let m : (a +ℤ c) <ℤ (b +ℤ c) = omega (arith, ints) in
-      rw (p, q) (below_is (a +ℤ c) (b +ℤ c) m)
+      rw (p, q) (sym (int_cmp_is (a +ℤ c) (b +ℤ c) Less m))
 
   pub number_laws : Laws number_model
   number_laws = record {
     cmp_flip = int_cmp_total.antisymm;
     cmp_chain = int_cmp_total.trans;
-    cmp_same = level;
+    cmp_same = λ a b e. grind (arith, ints);
     sum_swap = λ a b h. ap fit (+ℤ_comm a b);
     sum_group = group;
     sum_zero = with_zero;
