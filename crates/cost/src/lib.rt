@@ -2,7 +2,7 @@
 
 #![tactic(auto)]
 
-ghost use Rattle.std.specs.Prelude.{◌≡◌, ℕ, ◌+◌, ◌^◌, ◌≤◌, Decides, refl};
+ghost use Rattle.std.specs.Prelude.{◌≡◌, ℕ, ◌+◌, ◌^◌, ◌≤◌, Decides};
 ghost use Rattle.cost.specs.Model.{Model, Laws};
 ghost use Rattle.cost.specs.Counts.{count_model};
 ghost use Rattle.cost.specs.Pairs.{pair_model};
@@ -63,7 +63,7 @@ impl Cost for Count {
 
     ghost laws = { count_laws };
 
-    ghost ordered = { refl };
+    ghost ordered = { Prim.search rules };
 
     ghost exact = { Prim.search rules };
 

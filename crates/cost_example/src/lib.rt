@@ -2,7 +2,7 @@
 
 #![tactic(auto)]
 
-ghost use Rattle.std.specs.Prelude.{◌≡◌, pos, negsuc, refl};
+ghost use Rattle.std.specs.Prelude.{◌≡◌, pos, negsuc};
 ghost use Rattle.std.specs.declared.cmp.Ordering.TheVariants.{Greater};
 ghost use Rattle.cost.specs.Counts.{count};
 ghost use Rattle.cost.specs.Pairs.{pair};
@@ -24,7 +24,7 @@ impl Cost for Energy {
 
     ghost laws = { energy_laws };
 
-    ghost ordered = { refl };
+    ghost ordered = { Prim.search rules };
 
     ghost exact = { Prim.search rules };
 
