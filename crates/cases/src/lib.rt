@@ -7,8 +7,8 @@ ghost use Rattle.cases.specs.Cases.{EightCases};
 use covers::example_machine;
 
 // What reading the example gives, and what the definitions say of that machine.
-pub fn eight_cases() -> u8
+pub fn eight_cases()
     ensures { EightCases }
 {
-    example_machine()
+    example_machine();
 }

@@ -2,36 +2,24 @@
 use Rattle.std.specs.Prelude.{◌≡◌, ◌+◌, ◌≤◌, refl}
 use Rattle.std.specs.declared.cmp.Ordering.TheVariants.{Less, Equal, Greater}
 use Rattle.std.specs.declared.cmp.Ordering.{Ordering}
-use Rattle.std.proofs.Common.{ap, ◌∙◌, true≢false, arith}
-use Rattle.std.specs.Ordering.{ordering_reverse, ordering_then, is_lt, is_gt}
+use Rattle.std.proofs.Common.{ap, true≢false, arith}
+use Rattle.std.specs.Cmp.{IsTotalOrder, tied_itself, then_total, on_total}
+use Rattle.std.specs.Ordering.{ordering_then, is_lt, is_gt}
 use Rattle.cost.specs.Model.{Model, Laws, limit}
 use Rattle.cost.specs.Pairs.{pair, pair_model}
 use Rattle.cost.specs.declared.Pair.{Pair}
 
-then_flip : (a b : Ordering) → ordering_then (ordering_reverse a) (ordering_reverse b) ≡ ordering_reverse (ordering_then a b)
-then_flip Less b = refl
-then_flip Equal b = refl
-then_flip Greater b = refl
-
-own_turn : (r : Ordering) → r ≡ ordering_reverse r → r ≡ Equal
-own_turn Less e = absurd (true≢false (ap is_lt e))
-own_turn Equal e = refl
-own_turn Greater e = absurd (true≢false (ap is_gt e))
-
 module _ {C : Type 0} {m : Model C} (l : Laws m) where
+  cmp_total : IsTotalOrder m.cmp
+  cmp_total = record { antisymm = l.cmp_flip; trans = l.cmp_chain; congr = λ a b c e. ap (λ z. m.cmp z c) (l.cmp_same a b e) }
+
   -- each cost is the same as itself
   pub cmp_itself : (a : C) → m.cmp a a ≡ Equal
-  cmp_itself a = own_turn (m.cmp a a) (l.cmp_flip a a)
+  cmp_itself = tied_itself cmp_total
 
 module _ {A B : Type 0} {m : Model A} {n : Model B} (k : Laws m) (l : Laws n) where
-  chain : (a b c : Pair A B) (r s : Ordering) → m.cmp a.first b.first ≡ r → m.cmp b.first c.first ≡ s → ordering_then r (n.cmp a.second b.second) ≡ Less → ordering_then s (n.cmp b.second c.second) ≡ Less → (pair_model m n).cmp a c ≡ Less
-  chain a b c Less Less p q g h = rw (k.cmp_chain a.first b.first c.first p q)
-  chain a b c Less Equal p q g h = rw (← k.cmp_same b.first c.first q, p)
-  chain a b c Less Greater p q g h = absurd (true≢false (ap is_gt h))
-  chain a b c Equal Less p q g h = rw (k.cmp_same a.first b.first p, q)
-  chain a b c Equal Equal p q g h = rw (k.cmp_same a.first b.first p, q) (l.cmp_chain a.second b.second c.second g h)
-  chain a b c Equal Greater p q g h = absurd (true≢false (ap is_gt h))
-  chain a b c Greater s p q g h = absurd (true≢false (ap is_gt g))
+  pair_total : IsTotalOrder (pair_model m n).cmp
+  pair_total = then_total (on_total (λ p. p.first) (cmp_total k)) (on_total (λ p. p.second) (cmp_total l))
 
   same : (a b : Pair A B) (r : Ordering) → m.cmp a.first b.first ≡ r → ordering_then r (n.cmp a.second b.second) ≡ Equal → a ≡ b
   same a b Less p e = absurd (true≢false (ap is_lt e))
@@ -45,8 +33,8 @@ module _ {A B : Type 0} {m : Model A} {n : Model B} (k : Laws m) (l : Laws n) wh
 
   pub pair_laws : Laws (pair_model m n)
   pair_laws = record {
-    cmp_flip = λ a b. (λ i. ordering_then (k.cmp_flip a.first b.first i) (l.cmp_flip a.second b.second i)) ∙ then_flip (m.cmp b.first a.first) (n.cmp b.second a.second);
-    cmp_chain = λ a b c g h. chain a b c (m.cmp a.first b.first) (m.cmp b.first c.first) refl refl g h;
+    cmp_flip = pair_total.antisymm;
+    cmp_chain = pair_total.trans;
     cmp_same = λ a b e. same a b (m.cmp a.first b.first) refl e;
     sum_swap = λ a b h. λ i. pair (k.sum_swap a.first b.first (omega arith) i) (l.sum_swap a.second b.second (omega arith) i);
     sum_group = λ a b c h. λ i. pair (k.sum_group a.first b.first c.first (omega arith) i) (l.sum_group a.second b.second c.second (omega arith) i);

@@ -14,7 +14,7 @@ use cost::{Cost, Count, Pair};
 use std::cmp::Ordering;
 
 // Energy in whole units. A sum or a difference that is too large stays at the end of the range.
-#[derive(Clone, Copy, Debug, PartialEq, Eq)]
+#[derive(Clone, Copy, Debug, PartialEq, Eq, PartialOrd, Ord)]
 pub struct Energy {
     pub units: i32,
 }
@@ -23,6 +23,8 @@ impl Cost for Energy {
     ghost model = { energy_model };
 
     ghost laws = { energy_laws };
+
+    ghost ordered = { Prim.search rules };
 
     ghost exact = { Prim.search rules };
 
@@ -40,10 +42,6 @@ impl Cost for Energy {
         Energy {
             units: self.units.saturating_sub(other.units),
         }
-    }
-
-    fn compare(&self, other: &Energy) -> Ordering {
-        self.units.cmp(&other.units)
     }
 
     fn weight(&self) -> u32 {
