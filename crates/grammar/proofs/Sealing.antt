@@ -3,7 +3,7 @@ use Rattle.std.proofs.Common.{◌≡◌, ℕ, true, map, vec_items, sym, ◌∙�
 use Rattle.std.proofs.lemmas.List.{length-map}
 use Rattle.grammar.specs.Fits.{rules_fit}
 use Rattle.grammar.specs.Lists.{Declared}
-use Rattle.grammar.specs.Meaning.{declared_lists}
+use Rattle.grammar.specs.Contents.{declared_lists}
 use Rattle.grammar.specs.Views.{operator_of, nonterminal_of, rule_of}
 use Rattle.grammar.specs.declared.declarations.Declarations.{Declarations}
 use Rattle.grammar.proofs.Fitting.{declared}

@@ -1,6 +1,5 @@
-use Rattle.std.proofs.Common.{refl}
 use Rattle.grammar.proofs.Sealing.{declarations_fit}
 use Rattle.grammar.proofs.draft.Draft.seal.Goals as goal
 
-pub returns : goal.returns
-returns g c = record { lists = refl; sealed = λ p. record { declared = declarations_fit c.args.self.declarations; priced = p } }
+pub invariant_of-result : goal.invariant_of-result
+invariant_of-result g c = record { sealed = record { declared = declarations_fit c.args.self.declarations; priced = c.args.self.priced } }
