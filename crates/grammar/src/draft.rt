@@ -191,6 +191,7 @@ impl<C: Cost> Draft<C> {
     }
 
     // The grammar of what has been declared.
+    #[tactic(auto, using(crate::proofs::Sealing::sealed_with))]
     pub fn seal(self) -> Grammar<C>
         ensures lists { grammar_lists result ≡ draft_lists self }
         ensures sealed { Sealed C.Cost.model (grammar_lists result) }

@@ -34,6 +34,7 @@ impl<C: Copy> Declarations<C> {
     }
 
     // The number of the operator of this name.
+    #[tactic(auto, using(crate::proofs::Places::place_map))]
     pub fn operator_number(&self, name: &Name) -> Option<OperatorNumber>
         ensures { option_map (λ n. n.0) result ≡ operator_place (declared_lists self.now) (text name.now) }
     {
@@ -41,6 +42,7 @@ impl<C: Copy> Declarations<C> {
     }
 
     // The number of the nonterminal of this name.
+    #[tactic(auto, using(crate::proofs::Places::place_map))]
     pub fn nonterminal_number(&self, name: &Name) -> Option<NonterminalNumber>
         ensures { option_map (λ n. n.0) result ≡ nonterminal_place (declared_lists self.now) (text name.now) }
     {
