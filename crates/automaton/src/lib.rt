@@ -57,7 +57,7 @@ pub struct Memory<'a, C> {
 
 /// A labeller that works out a row once for each key.
 #[derive(Drop)]
-pub struct Automaton<'a, C> {
+pub struct Automaton<'a, C: Cost> {
     grammar: &'a Grammar<C>,
     nodes: Nodes<'a>,
     states: States<'a, C>,

@@ -1,6 +1,6 @@
 -- What a draft's calls do to its lists: what is appended, or why nothing is. Checks run from the top downwards.
-use Rattle.std.specs.Prelude.{ℕ, ◌+◌, Bool, false, cond, ◌||◌, List, [], ◌∷◌, ◌++◌, length, is_some, Some, None, Ok, Err, Option, Result, ◌==◌, nat_le, nat_lt}
-use Rattle.std.specs.List.{slice_get}
+use Rattle.std.specs.Prelude.{ℕ, Bool, false, cond, ◌||◌, List, [], ◌∷◌, ◌++◌, length, is_some, Some, None, Ok, Err, Option, Result, ◌==◌, nat_le, nat_lt}
+use Rattle.std.specs.List.{slice_get, position_from}
 use Rattle.std.specs.Option.{ok_or, unwrap_or, option_map}
 use Rattle.std.specs.Ordering.{is_lt}
 use Rattle.std.specs.Str.{bytes_eq}
@@ -16,10 +16,9 @@ use Rattle.grammar.specs.declared.refusal.DraftRefusal.TheVariants.{Repeated, Un
 abbrev pub refuse_if : {A E : Type 0} → Bool → E → Result A E → Result A E
 refuse_if b e r = cond b (Err e) r
 
--- the place of a name among things that have names, of which the first has the place i
+-- the place of the first that has the name, where the first of all has the place i
 unfoldable pub place_from : {A : Type 0} → (A → Text) → ℕ → Text → List A → Option ℕ
-place_from f i x [] = None
-place_from f i x (y ∷ ys) = cond (bytes_eq (f y) x) (Some i) (place_from f (i + 1) x ys)
+place_from f i x ys = position_from (λ y. bytes_eq (f y) x) i ys
 
 -- the number of the operator or nonterminal of a name
 abbrev pub operator_place : {C : Type 0} → Lists C → Text → Option ℕ

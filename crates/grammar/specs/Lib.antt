@@ -2,5 +2,8 @@ pub mod Lists
 pub mod Numbers
 pub mod Views
 pub mod Fits
+pub mod Once
+pub mod Contents
+pub mod Answers
 pub mod Meaning
 pub mod Drafting

@@ -5,6 +5,12 @@ ghost use Rattle.grammar.specs.Views.{operator_of, rule_of};
 
 use crate::parts::{Nonterminal, Operator, Rule};
 
+pub(crate) const MOST_OPERATORS: usize = 64;
+
+pub(crate) const MOST_NONTERMINALS: usize = 32;
+
+pub(crate) const MOST_RULES: usize = 256;
+
 // Memory for as many as the limits allow is there from the start.
 #[derive(Drop)]
 pub struct Declarations<C> {

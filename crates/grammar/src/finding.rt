@@ -35,10 +35,5 @@ pub fn find<T: Named>(items: &[T], name: &Name) -> Option<usize>
     ensures value { result ≡ place_from T.Named.called 0 (text name.now) items.now }
     ensures within { IfSome result (λ i. i < length items.now) }
 {
-    for (i, x) in items.iter().enumerate() {
-        if x.name().same(name) {
-            return Some(i);
-        }
-    }
-    None
+    items.iter().position(|x| x.name().same(name))
 }

@@ -4,8 +4,9 @@
 
 pub mod declarations;
 pub mod draft;
-mod finding;
+pub mod finding;
 pub mod grammar;
+mod growth;
 pub mod parts;
 pub mod questions;
 pub mod refusal;

@@ -2,15 +2,15 @@
 use name::Name;
 
 // The number of an operator, from 0 as declared.
-#[derive(Clone, Copy)]
+#[derive(Clone, Copy, Debug, PartialEq, Eq)]
 pub struct OperatorNumber(pub usize);
 
 // The number of a nonterminal, from 0 as declared.
-#[derive(Clone, Copy)]
+#[derive(Clone, Copy, Debug, PartialEq, Eq)]
 pub struct NonterminalNumber(pub usize);
 
 // The number of a rule, from 1 as added.
-#[derive(Clone, Copy)]
+#[derive(Clone, Copy, Debug, PartialEq, Eq)]
 pub struct RuleNumber(pub usize);
 
 #[derive(Clone, Copy)]
@@ -26,7 +26,7 @@ pub struct Nonterminal {
 
 // What a rule rewrites its left side to: a chain rule to another nonterminal, a base rule to an operator with a nonterminal
 // for each of its kids.
-#[derive(Clone, Copy)]
+#[derive(Clone, Copy, Debug, PartialEq, Eq)]
 pub enum Form {
     Chain {
         source: NonterminalNumber,

@@ -1,8 +1,11 @@
 // What can be asked of declarations.
 ghost use Rattle.std.specs.Prelude.{◌≡◌, ◌<◌, map, length, MatchOption};
+ghost use Rattle.std.specs.Option.{option_map};
 ghost use Rattle.name.specs.Names.{text};
+ghost use Rattle.name.specs.Outcomes.{map_ok};
+ghost use Rattle.grammar.specs.Answers.{kid_text};
+ghost use Rattle.grammar.specs.Contents.{declared_lists};
 ghost use Rattle.grammar.specs.Drafting.{operator_place, nonterminal_place, find_operator, find_nonterminal, find_kid, kids_of};
-ghost use Rattle.grammar.specs.Meaning.{declared_lists, operator_found, nonterminal_found, operator_answer, nonterminal_answer, kid_answer, kid_text};
 ghost use Rattle.grammar.specs.Views.{operator_of, nonterminal_of, rule_of};
 
 use crate::declarations::Declarations;
@@ -31,37 +34,30 @@ impl<C: Copy> Declarations<C> {
     }
 
     // The number of the operator of this name.
+    #[tactic(auto, using(crate::proofs::Places::place_map))]
     pub fn operator_number(&self, name: &Name) -> Option<OperatorNumber>
-        ensures { operator_found result ≡ operator_place (declared_lists self.now) (text name.now) }
+        ensures { option_map (λ n. n.0) result ≡ operator_place (declared_lists self.now) (text name.now) }
     {
-        match find(self.operators.as_slice(), name) {
-            Some(i) => Some(OperatorNumber(i)),
-            None => None,
-        }
+        find(self.operators.as_slice(), name).map(OperatorNumber)
     }
 
     // The number of the nonterminal of this name.
+    #[tactic(auto, using(crate::proofs::Places::place_map))]
     pub fn nonterminal_number(&self, name: &Name) -> Option<NonterminalNumber>
-        ensures { nonterminal_found result ≡ nonterminal_place (declared_lists self.now) (text name.now) }
+        ensures { option_map (λ n. n.0) result ≡ nonterminal_place (declared_lists self.now) (text name.now) }
     {
-        match find(self.nonterminals.as_slice(), name) {
-            Some(i) => Some(NonterminalNumber(i)),
-            None => None,
-        }
+        find(self.nonterminals.as_slice(), name).map(NonterminalNumber)
     }
 
     // How many kids the operator takes; 0 where the number is not declared.
     pub(crate) fn kids_of(&self, operator: OperatorNumber) -> u8
         ensures { result ≡ kids_of (declared_lists self.now) operator.0 }
     {
-        match self.operators.get(operator.0) {
-            Some(x) => x.kids,
-            None => 0,
-        }
+        self.operators.get(operator.0).map_or(0, |x| x.kids)
     }
 
     pub(crate) fn find_operator(&self, name: &Name) -> Result<OperatorNumber, DraftRefusal>
-        ensures { operator_answer result ≡ find_operator (declared_lists self.now) (text name.now) }
+        ensures { map_ok (λ n. n.0) result ≡ find_operator (declared_lists self.now) (text name.now) }
     {
         self.operator_number(name)
             .ok_or(DraftRefusal::Undeclared(Part::Operator))
@@ -72,7 +68,7 @@ impl<C: Copy> Declarations<C> {
         name: &Name,
         part: Part,
     ) -> Result<NonterminalNumber, DraftRefusal>
-        ensures { nonterminal_answer result ≡ find_nonterminal (declared_lists self.now) part (text name.now) }
+        ensures { map_ok (λ n. n.0) result ≡ find_nonterminal (declared_lists self.now) part (text name.now) }
     {
         self.nonterminal_number(name)
             .ok_or(DraftRefusal::Undeclared(part))
@@ -84,11 +80,9 @@ impl<C: Copy> Declarations<C> {
         name: Option<Name>,
         part: Part,
     ) -> Result<Option<NonterminalNumber>, DraftRefusal>
-        ensures { kid_answer result ≡ find_kid (declared_lists self.now) part (kid_text name) }
+        ensures { map_ok (option_map (λ n. n.0)) result ≡ find_kid (declared_lists self.now) part (kid_text name) }
     {
-        match name {
-            None => Ok(None),
-            Some(name) => Ok(Some(self.find_nonterminal(&name, part)?)),
-        }
+        name.map(|name| self.find_nonterminal(&name, part))
+            .transpose()
     }
 }

@@ -68,21 +68,19 @@ fn kid_named(text: &str) -> Result<Option<Name>, BadName> {
     if text == "-" {
         Ok(None)
     } else {
-        Ok(Some(named(text)?))
+        named(text).map(Some)
     }
 }
 
 // Makes the call, and gives the number answered.
 fn answer_of(draft: &mut Draft<Count>, call: Call) -> Result<Result<usize, DraftRefusal>, BadName> {
     let answer = match call {
-        Call::Operator(name, kids) => match draft.declare_operator(named(name)?, kids) {
-            Ok(number) => Ok(number.0),
-            Err(refusal) => Err(refusal),
-        },
-        Call::Nonterminal(name) => match draft.declare_nonterminal(named(name)?) {
-            Ok(number) => Ok(number.0),
-            Err(refusal) => Err(refusal),
-        },
+        Call::Operator(name, kids) => draft
+            .declare_operator(named(name)?, kids)
+            .map(|number| number.0),
+        Call::Nonterminal(name) => draft
+            .declare_nonterminal(named(name)?)
+            .map(|number| number.0),
         Call::Base(left, operator, first, second, value, mnemonic) => {
             let left = named(left)?;
             let operator = named(operator)?;
@@ -90,19 +88,17 @@ fn answer_of(draft: &mut Draft<Count>, call: Call) -> Result<Result<usize, Draft
             let second = kid_named(second)?;
             let mnemonic = named(mnemonic)?;
             let kids = KidNames { first, second };
-            match draft.add_base(left, operator, kids, Count { value }, mnemonic) {
-                Ok(number) => Ok(number.0),
-                Err(refusal) => Err(refusal),
-            }
+            draft
+                .add_base(left, operator, kids, Count { value }, mnemonic)
+                .map(|number| number.0)
         }
         Call::Chain(left, source, value, mnemonic) => {
             let left = named(left)?;
             let source = named(source)?;
             let mnemonic = named(mnemonic)?;
-            match draft.add_chain(left, source, Count { value }, mnemonic) {
-                Ok(number) => Ok(number.0),
-                Err(refusal) => Err(refusal),
-            }
+            draft
+                .add_chain(left, source, Count { value }, mnemonic)
+                .map(|number| number.0)
         }
     };
     Ok(answer)

@@ -3,25 +3,16 @@ use crate::calls::{Call, Case, named, run};
 use cost::Count;
 use grammar::declarations::Declarations;
 use grammar::draft::Draft;
-use grammar::parts::Form;
+use grammar::parts::{Form, NonterminalNumber, OperatorNumber};
 use grammar::refusal::DraftRefusal::{OwnSource, Repeated, Undeclared, Unfit, Unpriced};
 use grammar::refusal::Part;
 use name::Name;
 use std::process::Abort;
 use std::test::Fail;
 
-// The form of a rule, by the numbers in it: operators first.
-#[derive(Clone, Copy, Debug, PartialEq, Eq)]
-enum Shape {
-    Chain(usize),
-    Leaf(usize),
-    Unary(usize, usize),
-    Binary(usize, usize, usize),
-}
-
 // A rule as it should be: its left side, form, cost and mnemonic.
 #[derive(Clone, Copy)]
-struct Listed(usize, Shape, i32, &'static str);
+struct Listed(NonterminalNumber, Form, i32, &'static str);
 
 // A name, and the numbers that it has as an operator and as a nonterminal.
 #[derive(Clone, Copy)]
@@ -58,10 +49,41 @@ static OPERATORS: [(&str, u8); 3] = [("CNST", 0), ("ADD", 2), ("LOAD", 1)];
 static NONTERMINALS: [&str; 2] = ["reg", "ADD"];
 
 static RULES: [Listed; 4] = [
-    Listed(1, Shape::Leaf(0), 0, "const"),
-    Listed(0, Shape::Chain(1), 2, "li"),
-    Listed(0, Shape::Binary(1, 0, 1), 3, "addi"),
-    Listed(0, Shape::Unary(2, 1), 1000, "ld"),
+    Listed(
+        NonterminalNumber(1),
+        Form::Leaf {
+            operator: OperatorNumber(0),
+        },
+        0,
+        "const",
+    ),
+    Listed(
+        NonterminalNumber(0),
+        Form::Chain {
+            source: NonterminalNumber(1),
+        },
+        2,
+        "li",
+    ),
+    Listed(
+        NonterminalNumber(0),
+        Form::Binary {
+            operator: OperatorNumber(1),
+            left: NonterminalNumber(0),
+            right: NonterminalNumber(1),
+        },
+        3,
+        "addi",
+    ),
+    Listed(
+        NonterminalNumber(0),
+        Form::Unary {
+            operator: OperatorNumber(2),
+            kid: NonterminalNumber(1),
+        },
+        1000,
+        "ld",
+    ),
 ];
 
 static LOOK_UPS: [Sought; 6] = [
@@ -72,19 +94,6 @@ static LOOK_UPS: [Sought; 6] = [
     Sought("BIG", None, None),
     Sought("LOA", None, None),
 ];
-
-fn shape_of(form: Form) -> Shape {
-    match form {
-        Form::Chain { source } => Shape::Chain(source.0),
-        Form::Leaf { operator } => Shape::Leaf(operator.0),
-        Form::Unary { operator, kid } => Shape::Unary(operator.0, kid.0),
-        Form::Binary {
-            operator,
-            left,
-            right,
-        } => Shape::Binary(operator.0, left.0, right.0),
-    }
-}
 
 fn check_name(rt: &impl Abort, name: &Name, text: &str) {
     assert!(rt; name.is(text.as_bytes()), "{}", text);
@@ -108,10 +117,10 @@ fn check_nonterminals(rt: &impl Abort, declarations: &Declarations<Count>) {
 fn check_rules(rt: &impl Abort, declarations: &Declarations<Count>) {
     assert_eq!(rt; declarations.rules().len(), RULES.len());
     for (rule, listed) in declarations.rules().iter().zip(RULES.iter()) {
-        let Listed(left, shape, value, mnemonic) = *listed;
+        let Listed(left, form, value, mnemonic) = *listed;
         check_name(rt, &rule.mnemonic, mnemonic);
-        assert_eq!(rt; rule.left.0, left);
-        assert_eq!(rt; shape_of(rule.form), shape);
+        assert_eq!(rt; rule.left, left);
+        assert_eq!(rt; rule.form, form);
         assert_eq!(rt; rule.cost.value, value);
     }
 }
@@ -120,16 +129,15 @@ fn check_look_ups(rt: &impl Abort, declarations: &Declarations<Count>) -> Result
     for sought in &LOOK_UPS {
         let Sought(text, as_operator, as_nonterminal) = *sought;
         let name = named(text)?;
-        let operator = match declarations.operator_number(&name) {
-            Some(number) => Some(number.0),
-            None => None,
-        };
-        assert_eq!(rt; operator, as_operator, "{}", text);
-        let nonterminal = match declarations.nonterminal_number(&name) {
-            Some(number) => Some(number.0),
-            None => None,
-        };
-        assert_eq!(rt; nonterminal, as_nonterminal, "{}", text);
+        let operator = declarations.operator_number(&name);
+        assert_eq!(rt; operator, as_operator.map(OperatorNumber), "{}", text);
+        let nonterminal = declarations.nonterminal_number(&name);
+        assert_eq!(rt;
+            nonterminal,
+            as_nonterminal.map(NonterminalNumber),
+            "{}",
+            text
+        );
     }
     Ok(())
 }

@@ -5,6 +5,7 @@ ghost use Rattle.machine.specs.Machines.{machine_view};
 ghost use Rattle.inspection.specs.Inspections.{lines_text, grammar_text, machine_text, fault_text, inspected, unreadable};
 
 use crate::lines::Listed;
+use cost::Cost;
 use fault::{MachineFault, Refusal};
 use grammar::declarations::Declarations;
 use grammar::grammar::Grammar;
@@ -32,7 +33,7 @@ fn push_lines<C, T: Listed<C>>(
 }
 
 // A grammar's operators, nonterminals and rules, and how many there are of each.
-pub fn grammar_text<C: Copy + Figures>(
+pub fn grammar_text<C: Cost + Figures>(
     heap: Global,
     grammar: &Grammar<C>,
 ) -> Result<Vec<u8>, AllocError>

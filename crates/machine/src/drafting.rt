@@ -3,7 +3,6 @@ ghost use Rattle.std.specs.Prelude.{◌≡◌, Ok, Err, MatchResult, OnErr};
 ghost use Rattle.name.specs.Outcomes.{map_err};
 ghost use Rattle.field.specs.Readers.{to_come, next_place};
 ghost use Rattle.grammar.specs.Drafting.{lists_after};
-ghost use Rattle.grammar.specs.Lists.{Priced};
 ghost use Rattle.grammar.specs.Meaning.{draft_lists};
 ghost use Rattle.entry.specs.EntryViews.{entry_view};
 ghost use Rattle.machine.specs.Files.{drafted, taken, all_taken, numbered, in_line};
@@ -20,7 +19,6 @@ use tariff::Tariff;
 pub fn declare<C: Tariff>(draft: &mut Draft<C>, entry: Entry) -> Result<(), DraftRefusal>
     ensures outcome { MatchResult result (λ _. drafted C.Cost.model C.Tariff.priced (draft_lists draft.old) (entry_view entry) ≡ Ok (draft_lists draft.new)) (λ e. drafted C.Cost.model C.Tariff.priced (draft_lists draft.old) (entry_view entry) ≡ Err e) }
     ensures kept { OnErr result (draft_lists draft.new ≡ draft_lists draft.old) }
-    ensures priced { Priced C.Cost.model (draft_lists draft.old) → Priced C.Cost.model (draft_lists draft.new) }
 {
     match entry {
         Entry::Operator { name, kids } => {
@@ -73,7 +71,6 @@ pub(crate) fn in_line<T: Drop>(
 pub fn take_line<C: Tariff>(draft: &mut Draft<C>, line: &[u8]) -> Result<(), LineFault>
     ensures outcome { MatchResult result (λ _. taken C.Cost.model C.Tariff.priced (draft_lists draft.old) line.now ≡ Ok (draft_lists draft.new)) (λ e. taken C.Cost.model C.Tariff.priced (draft_lists draft.old) line.now ≡ Err e) }
     ensures kept { OnErr result (draft_lists draft.new ≡ draft_lists draft.old) }
-    ensures priced { Priced C.Cost.model (draft_lists draft.old) → Priced C.Cost.model (draft_lists draft.new) }
 {
     let entry = entry_of(line)?;
     declare(draft, entry)?;
@@ -86,7 +83,6 @@ pub fn take_lines<C: Tariff>(
     lines: &mut LineReader,
 ) -> Result<(), MachineFault>
     ensures outcome { MatchResult result (λ _. all_taken C.Cost.model C.Tariff.priced (draft_lists draft.old) (numbered (next_place lines.old) (to_come lines.old)) ≡ Ok (draft_lists draft.new)) (λ e. all_taken C.Cost.model C.Tariff.priced (draft_lists draft.old) (numbered (next_place lines.old) (to_come lines.old)) ≡ Err e) }
-    ensures priced { Priced C.Cost.model (draft_lists draft.old) → Priced C.Cost.model (draft_lists draft.new) }
 {
     while let Some(part) = next_line(lines) {
         in_line(part.place, take_line(draft, part.text))?;

@@ -3,7 +3,7 @@ ghost use Rattle.std.specs.Prelude.{◌≡◌, IfOk, Ok, Err, MatchResult};
 ghost use Rattle.name.specs.Outcomes.{map_ok};
 ghost use Rattle.field.specs.Readers.{to_come, next_place};
 ghost use Rattle.grammar.specs.Drafting.{empty};
-ghost use Rattle.grammar.specs.Lists.{Priced, Sealed};
+ghost use Rattle.grammar.specs.Lists.{Sealed};
 ghost use Rattle.grammar.specs.Meaning.{draft_lists, grammar_lists};
 ghost use Rattle.entry.specs.EntryViews.{header_view};
 ghost use Rattle.machine.specs.Files.{numbered, all_taken, first_of, machine_in, machine_of};
@@ -45,7 +45,7 @@ pub fn fill<C: Tariff>(
     lines: &mut LineReader,
 ) -> Result<Grammar<C>, MachineFault>
     ensures value { map_ok grammar_lists result ≡ all_taken C.Cost.model C.Tariff.priced (draft_lists draft) (numbered (next_place lines.old) (to_come lines.old)) }
-    ensures sealed { Priced C.Cost.model (draft_lists draft) → IfOk result (λ g. Sealed C.Cost.model (grammar_lists g)) }
+    ensures sealed { IfOk result (λ g. Sealed C.Cost.model (grammar_lists g)) }
 {
     take_lines(&mut draft, lines)?;
     Ok(draft.seal())

@@ -16,7 +16,7 @@ returns-then-not-are_ranged g c = birth_range c.args.capacities (count (grammar_
 pub is_enough-requires : goal.is_enough-requires
 is_enough-requires g c =
     let wide = long_as nonterminal_of c.nonterminals-nonterminals.result.now _ (c.nonterminals-nonterminals.ensures ∙ ap (λ (z : Lists g.row.C.Denot). z.nonterminals) c.declarations.ensures.lists) in
-    let few = c.declarations.ensures.fits.few_nonterminals in
+    let few = c.declarations.ensures.sealed.declared.few_nonterminals in
     ((ranges c.args.capacities (sym c.if-not-are_ranged.ensures)).rows, omega arith)
 
 pub returns-then-not-is_enough : goal.returns-then-not-is_enough
@@ -31,7 +31,7 @@ returns g c =
     let caps = c.args.capacities in
     let n = length c.nonterminals-nonterminals.result.now in
     let wide : n ≡ count G = long_as nonterminal_of c.nonterminals-nonterminals.result.now _ (c.nonterminals-nonterminals.ensures ∙ ap (λ (z : Lists g.row.C.Denot). z.nonterminals) c.declarations.ensures.lists) in
-    let few = c.declarations.ensures.fits.few_nonterminals in
+    let few = c.declarations.ensures.sealed.declared.few_nonterminals in
     let r = ranges caps (sym c.if-not-are_ranged.ensures) in
     let f = fits caps n (lengths c.args.memory) (sym c.if-not-is_enough.ensures) in
     let most = c.new.ensures.most ∙ min-eq_left f.nodes in

@@ -1,23 +1,16 @@
-use Rattle.std.proofs.Common.{arith}
-use Rattle.std.proofs.lemmas.List.{at_drop_more, at_drop_all}
+use Rattle.std.proofs.Common.{rules, ◌∙◌}
+use Rattle.std.specs.Str.{bytes_eq}
+use Rattle.std.proofs.lemmas.Iterator.{YieldsList-from_slice}
+use Rattle.std.proofs.lemmas.Iterator.Adapters.{position_from-zero}
+use Rattle.std.proofs.lemmas.Iterator.Search.{position_from_yields_List}
 use Rattle.name.specs.Names.{text}
 use Rattle.grammar.specs.Drafting.{place_from}
 use Rattle.grammar.proofs.finding.find.Goals as goal
 
-pub returns-then-same : goal.returns-then-same
+pub returns-clause-value : goal.returns-clause-value
 unfolding place_from
-returns-then-same g c =
-    let e = at_drop_more (place_from g.T.Named.called c.loop-i.i (text c.args.name.now)) c.args.items.now c.loop-i.i c.index-items-i.result (omega arith) in
-    record { value = grind arith; within = omega arith }
-
-pub loop-i-preserved : goal.loop-i-preserved
-unfolding place_from
-loop-i-preserved g c =
-    let e = at_drop_more (place_from g.T.Named.called c.loop-i.i (text c.args.name.now)) c.args.items.now c.loop-i.i c.index-items-i.result (omega arith) in
-    grind arith
-
-pub returns : goal.returns
-unfolding place_from
-returns g c =
-    let e = at_drop_all (place_from g.T.Named.called c.loop-i.i (text c.args.name.now)) c.args.items.now c.loop-i.i (omega arith) in
-    record { value = grind arith; within = tt }
+returns-clause-value g c =
+    let has = λ (y : g.row.T.Denot). bytes_eq (g.T.Named.called y) (text c.args.name.now) in
+    position_from_yields_List has _ _ c.position.result c.position.ensures.ran
+    (YieldsList-from_slice _ c.iter.ensures.rest) (λ x b q k. search rules)
+    ∙ position_from-zero has c.args.items.now

@@ -11,22 +11,19 @@ returns-in_err-in_line g c =
     let p = g.C.Tariff.priced in
     let G = draft_lists c.loop-part.draft in
     let q = err_from_is_err_and c.from_residual.result c.from_residual.ensures.1 in
-    let f = sym c.loop-part.invariant.0 ∙ ap (all_taken m p G) c.in-Some.ensures ∙ took_fault m p G _ _ _ _ _ c.take_line.result c.take_line.ensures.outcome c.in_err-in_line.ensures in
-    rw (q.1, q.2) (record { outcome = f; priced = λ h. c.take_line.ensures.priced (c.loop-part.invariant.1 h) })
+    let f = sym c.loop-part.invariant ∙ ap (all_taken m p G) c.in-Some.ensures ∙ took_fault m p G _ _ _ _ _ c.take_line.result c.take_line.ensures.outcome c.in_err-in_line.ensures in
+    rw (q.1, q.2) (record { outcome = f })
 
 pub loop-part-preserved : goal.loop-part-preserved
 loop-part-preserved g c =
     let m = g.C.Cost.model in
     let p = g.C.Tariff.priced in
     let G = draft_lists c.loop-part.draft in
-    (sym (took_more m p G _ _ _ _ _ c.take_line.result c.take_line.ensures.outcome c.in_ok-in_line.ensures) ∙ sym (ap (all_taken m p G) c.in-Some.ensures) ∙ c.loop-part.invariant.0, λ h. c.take_line.ensures.priced (c.loop-part.invariant.1 h))
+    sym (took_more m p G _ _ _ _ _ c.take_line.result c.take_line.ensures.outcome c.in_ok-in_line.ensures) ∙ sym (ap (all_taken m p G) c.in-Some.ensures) ∙ c.loop-part.invariant
 
 pub returns : goal.returns
 returns g c =
     let m = g.C.Cost.model in
     let p = g.C.Tariff.priced in
     let G = draft_lists c.loop-part.draft in
-    record {
-      outcome = sym c.loop-part.invariant.0 ∙ ap (all_taken m p G) c.in_default.ensures ∙ all_none m p G;
-      priced = c.loop-part.invariant.1;
-    }
+    record { outcome = sym c.loop-part.invariant ∙ ap (all_taken m p G) c.in_default.ensures ∙ all_none m p G }

@@ -14,7 +14,7 @@ overflow_mul-most g c =
     let wide =
     lengths nonterminal_of c.nonterminals-width.result.now _
     (c.nonterminals-width.ensures ∙ ap (λ (z : Lists g.row.C.Denot). z.nonterminals) c.declarations.ensures.lists) in
-    let few = c.declarations.ensures.fits.few_nonterminals in
+    let few = c.declarations.ensures.sealed.declared.few_nonterminals in
     let w : length c.nonterminals-width.result.now ≤ 32 = omega arith in
     omega (arith, mul-le-mul c.if-most-gt2048.false w)
 
