@@ -8,15 +8,15 @@ ghost use Rattle.fault.specs.Faults.{refusal_number, draft_field, field_field, p
 use field::{FieldFault, FieldRefusal};
 use grammar::refusal::{DraftRefusal, Part};
 
-// Why a line is refused as a whole, or the first line of a file at a field.
+// Why a line is refused as a whole, or the first line of a file at a field, with the number of each refusal.
 #[derive(Clone, Copy, Debug, PartialEq, Eq)]
 pub enum LineRefusal {
     // Over 8,192 bytes.
-    TooLong,
+    TooLong = 1,
     // A line of no known kind, or a first line that is no `cost` line.
-    Unknown,
+    Unknown = 2,
     // The wrong number of fields.
-    Miscounted,
+    Miscounted = 3,
 }
 
 // Why a machine file is refused, by the layer that refuses it.
@@ -35,9 +35,7 @@ impl Refusal {
     {
         match self {
             Refusal::File => 6,
-            Refusal::Line(LineRefusal::TooLong) => 1,
-            Refusal::Line(LineRefusal::Unknown) => 2,
-            Refusal::Line(LineRefusal::Miscounted) => 3,
+            Refusal::Line(refusal) => *refusal as u8,
             Refusal::Field(refusal) => refusal.number(),
             Refusal::Draft(refusal) => refusal.number(),
         }
@@ -45,6 +43,7 @@ impl Refusal {
 }
 
 // A fault within a line. `field` counts from 1, and is 0 where the refusal is about no single field.
+// No `Option`: a fault is printed with this 0, so each reader would turn `None` back into 0.
 #[derive(Clone, Copy, Debug, PartialEq, Eq)]
 pub struct LineFault {
     pub field: usize,
@@ -52,6 +51,7 @@ pub struct LineFault {
 }
 
 // A fault of a machine file. `line` counts from 1, and is 0 where the refusal is about no single line.
+// No `Option`, as in `LineFault`: both numbers are printed as they stand here.
 #[derive(Clone, Copy, Debug, PartialEq, Eq)]
 pub struct MachineFault {
     pub line: usize,
@@ -65,8 +65,7 @@ fn field_of_field(fault: FieldFault) -> usize
 {
     match fault.refusal {
         FieldRefusal::Missing => 0,
-        FieldRefusal::BadName => fault.place,
-        FieldRefusal::BadNumber => fault.place,
+        FieldRefusal::BadName | FieldRefusal::BadNumber => fault.place,
     }
 }
 
@@ -76,11 +75,8 @@ fn field_of_draft(refusal: DraftRefusal) -> usize
 {
     match refusal {
         DraftRefusal::Repeated => 2,
-        DraftRefusal::Undeclared(part) => field_of_part(part),
-        DraftRefusal::Unfit(part) => field_of_part(part),
-        DraftRefusal::Full => 0,
-        DraftRefusal::OwnSource => 0,
-        DraftRefusal::Unpriced => 0,
+        DraftRefusal::Undeclared(part) | DraftRefusal::Unfit(part) => field_of_part(part),
+        DraftRefusal::Full | DraftRefusal::OwnSource | DraftRefusal::Unpriced => 0,
     }
 }
 
@@ -90,9 +86,7 @@ fn field_of_part(part: Part) -> usize
 {
     match part {
         Part::Left => 2,
-        Part::Kids => 3,
-        Part::Operator => 3,
-        Part::Source => 3,
+        Part::Kids | Part::Operator | Part::Source => 3,
         Part::FirstKid => 4,
         Part::SecondKid => 5,
     }

@@ -2,16 +2,30 @@
 use Rattle.std.proofs.Common.{◌≡◌, ℕ, suc, ◌+◌, ◌≤◌, cond, eqb, ltb, leb, List, [], ◌∷◌, length, take, drop, refl, ap, arith, length-drop}
 use Rattle.std.proofs.lemmas.List.{drop-drop}
 use Rattle.std.proofs.lemmas.Bool.Decides.{nat_tests}
-use Rattle.field.specs.Bytes.{place_of, on_first, split_at}
+use Rattle.std.specs.List.{onto_first}
+use Rattle.field.specs.Bytes.{place_of, split_at}
 
 -- what is left after the first part: nothing where no mark ends it
 abbrev pub after_first : ℕ → List ℕ → ℕ → List (List ℕ)
 after_first m xs n = cond (ltb n (length xs)) (split_at m (drop (suc n) xs)) []
 
+-- no byte: the place is 0
+place_none : (m : ℕ) → place_of m [] ≡ 0
+unfolding place_of
+place_none m = refl
+
+-- one byte more in front
+place_more : (m x : ℕ) (xs : List ℕ) → place_of m (x ∷ xs) ≡ cond (eqb x m) 0 (suc (place_of m xs))
+unfolding place_of
+place_more m x xs = grind (arith, nat_tests)
+
 pub split_first : (m : ℕ) (xs : List ℕ) → split_at m xs ≡ take (place_of m xs) xs ∷ after_first m xs (place_of m xs)
-unfolding place_of split_at
-split_first m [] = refl
-split_first m (x ∷ xs) = let h = ap (on_first x) (split_first m xs) in grind (arith, nat_tests)
+unfolding split_at
+split_first m [] = rw (place_none m)
+split_first m (x ∷ xs) =
+    let h = ap (onto_first x) (split_first m xs) in
+    let p = place_more m x xs in
+    grind (arith, nat_tests)
 
 -- what a reader at i has yet to hand out
 abbrev pub from_at : ℕ → List ℕ → ℕ → List (List ℕ)
@@ -23,8 +37,3 @@ step m xs i n h e =
     let d = drop-drop (suc n) i xs in
     let l = length-drop i xs in
     grind (arith, nat_tests)
-
--- how many parts one byte more makes
-pub parts_more : (m x : ℕ) (xs : List ℕ) → length (split_at m (x ∷ xs)) ≡ cond (eqb x m) 1 0 + length (split_at m xs)
-unfolding split_at
-parts_more m x xs = let h = split_first m xs in grind (arith, nat_tests)

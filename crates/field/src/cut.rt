@@ -7,23 +7,13 @@ pub fn place_of(text: &[u8], mark: u8) -> usize
     ensures value { result ≡ place_of mark text.now }
     ensures within { result ≤ length text.now }
 {
-    for (i, byte) in text.iter().enumerate() {
-        if *byte == mark {
-            return i;
-        }
-    }
-    text.len()
+    let first = text.iter().position(|byte| *byte == mark);
+    first.unwrap_or(text.len())
 }
 
 // How many parts there are between marks.
 pub fn parts(text: &[u8], mark: u8) -> usize
     ensures { result ≡ length (split_at mark text.now) }
 {
-    let mut n = 1;
-    for byte in text {
-        if *byte == mark {
-            n += 1;
-        }
-    }
-    n
+    text.split(|byte| *byte == mark).count()
 }

@@ -10,32 +10,21 @@ use crate::cut::place_of;
 use crate::fault::{FieldFault, FieldRefusal};
 use crate::parts::{Field, Form, Part, Placed};
 use form::{cost_of, cycles_of, kids_of, payload_of};
-use name::{Name, same_bytes};
+use name::Name;
 
 // The name with these bytes, or a refusal at the place.
 pub(crate) fn name_at(place: usize, bytes: &[u8]) -> Result<Name, FieldFault>
     ensures { map_ok text result ≡ name_form place bytes.now }
 {
-    match Name::new(bytes) {
-        Ok(name) => Ok(name),
-        Err(_) => Err(FieldFault {
-            place,
-            refusal: FieldRefusal::BadName,
-        }),
-    }
+    Name::new(bytes).map_err(|_| FieldRefusal::BadName.at(place))
 }
 
 // The number, or a refusal at the place.
 fn number_at<'a>(place: usize, number: Option<u32>) -> Result<Field<'a>, FieldFault>
     ensures { map_ok field_v result ≡ map_ok NumberV (or_fault BadNumber place number) }
 {
-    match number {
-        Some(n) => Ok(Field::Number(n)),
-        None => Err(FieldFault {
-            place,
-            refusal: FieldRefusal::BadNumber,
-        }),
-    }
+    let number = number.ok_or(FieldRefusal::BadNumber.at(place))?;
+    Ok(Field::Number(number))
 }
 
 impl<'a> Part<'a> {
@@ -51,10 +40,9 @@ impl<'a> Part<'a> {
     fn kid_field(self) -> Result<Field<'a>, FieldFault>
         ensures { map_ok field_v result ≡ map_ok kid_v (kid_form self.entry.place self.entry.text.now) }
     {
-        if same_bytes(self.text, b"-") {
-            Ok(Field::Dash)
-        } else {
-            self.name_field()
+        match self.text {
+            b"-" => Ok(Field::Dash),
+            _ => self.name_field(),
         }
     }
 
@@ -71,17 +59,10 @@ impl<'a> Part<'a> {
         ensures { result ≡ payload_form self.entry.place self.entry.text.now }
     {
         let text = self.text;
-        let at = place_of(text, b'=');
-        if at >= text.len() {
+        let Some(payload) = text.get(place_of(text, b'=') + 1..) else {
             return Ok(0);
-        }
-        match payload_of(&text[at + 1..]) {
-            Some(payload) => Ok(payload),
-            None => Err(FieldFault {
-                place: self.place,
-                refusal: FieldRefusal::BadNumber,
-            }),
-        }
+        };
+        payload_of(payload).ok_or(FieldRefusal::BadNumber.at(self.place))
     }
 
     // This part as an operator and a payload.

@@ -7,7 +7,7 @@ pub struct Part<'a> {
     pub text: &'a [u8],
 }
 
-// How a field is to be read.
+// How a field is to be read. An enum and not a function: the forms of a field are a fixed set.
 #[derive(Clone, Copy)]
 pub enum Form {
     Name,

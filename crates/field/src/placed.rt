@@ -12,22 +12,12 @@ use crate::parts::{Field, Placed};
 use name::Name;
 
 impl<'a> Placed<'a> {
-    fn refused(self, refusal: FieldRefusal) -> FieldFault
-        ensures place { result.place ≡ self.entry.place }
-        ensures refusal { result.refusal ≡ refusal }
-    {
-        FieldFault {
-            place: self.place,
-            refusal,
-        }
-    }
-
     pub(crate) fn name(self) -> Result<Name, FieldFault>
         ensures { map_ok text result ≡ name_in self.entry.place (field_v self.entry.field) }
     {
         match self.field {
             Field::Name(bytes) => name_at(self.place, bytes),
-            _ => Err(self.refused(FieldRefusal::BadName)),
+            _ => Err(FieldRefusal::BadName.at(self.place)),
         }
     }
 
@@ -36,7 +26,7 @@ impl<'a> Placed<'a> {
     {
         match self.field {
             Field::Number(n) => Ok(n),
-            _ => Err(self.refused(FieldRefusal::BadNumber)),
+            _ => Err(FieldRefusal::BadNumber.at(self.place)),
         }
     }
 
@@ -46,8 +36,8 @@ impl<'a> Placed<'a> {
     {
         match self.field {
             Field::Dash => Ok(None),
-            Field::Name(bytes) => Ok(Some(name_at(self.place, bytes)?)),
-            _ => Err(self.refused(FieldRefusal::BadName)),
+            Field::Name(bytes) => name_at(self.place, bytes).map(Some),
+            _ => Err(FieldRefusal::BadName.at(self.place)),
         }
     }
 }

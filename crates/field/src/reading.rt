@@ -14,6 +14,7 @@ use crate::line_reader::LineReader;
 use crate::parts::{Form, Placed};
 use name::Name;
 
+#[tactic(auto, unfolding(crate::specs::Lines::take_by))]
 impl<'a> LineReader<'a> {
     // What the next field says in a form.
     pub fn field(&mut self, form: Form) -> Result<Placed<'a>, FieldFault>
@@ -30,6 +31,7 @@ impl<'a> LineReader<'a> {
         self.field(Form::Name)?.name()
     }
 
+    // `kids`, `cost` and `cycles` are one line each over `field`, so a caller need not name a form.
     pub fn kids(&mut self) -> Result<u32, FieldFault>
         ensures value { result ≡ take_by kids_form (next_place self.old) (to_come self.old) }
         ensures moved { Moved result self.old self.new }

@@ -11,7 +11,7 @@ fn digits(text: &[u8], width: usize) -> Option<u64>
     ensures value { result ≡ digits_of width text.now }
     ensures bound { IfSome result (λ n. n < 10 ^ 10) }
 {
-    if text.len() == 0 || text.len() > width {
+    if text.is_empty() || text.len() > width {
         return None;
     }
     let mut n: u64 = 0;
@@ -30,22 +30,21 @@ fn limited(text: &[u8], width: usize, most: u64) -> Option<u64>
     ensures value { result ≡ at_most most (digits_of width text.now) }
     ensures bound { IfSome result (λ n. n ≤ most) }
 {
-    let n = digits(text, width)?;
-    if n <= most { Some(n) } else { None }
+    digits(text, width).filter(|n| *n <= most)
 }
 
 // How many kids an operator takes: one digit, at most 2.
 pub fn kids_of(text: &[u8]) -> Option<u32>
     ensures { result ≡ kids_of text.now }
 {
-    Some(limited(text, 1, 2)? as u32)
+    limited(text, 1, 2).map(|n| n as u32)
 }
 
 // A cost: one to four digits, at most 1,000.
 pub fn cost_of(text: &[u8]) -> Option<u32>
     ensures { result ≡ cost_of text.now }
 {
-    Some(limited(text, 4, 1000)? as u32)
+    limited(text, 4, 1000).map(|n| n as u32)
 }
 
 // Wholes and tenths as wholes: a half goes upwards.
@@ -73,8 +72,7 @@ fn decimal(text: &[u8]) -> Option<u64>
 pub fn cycles_of(text: &[u8]) -> Option<u32>
     ensures { result ≡ cycles_of text.now }
 {
-    let n = decimal(text)?;
-    if n <= 1000 { Some(n as u32) } else { None }
+    decimal(text).filter(|n| *n <= 1000).map(|n| n as u32)
 }
 
 // A payload: an optional `-` and one to ten digits, in the range of the answer.
@@ -82,7 +80,7 @@ pub fn payload_of(text: &[u8]) -> Option<i32>
     ensures { result ≡ payload_of text.now }
 {
     match text {
-        [b'-', rest @ ..] => Some((-(limited(rest, 10, 2147483648)? as i64)) as i32),
-        _ => Some(limited(text, 10, 2147483647)? as i32),
+        [b'-', rest @ ..] => limited(rest, 10, 2147483648).map(|n| (-(n as i64)) as i32),
+        _ => limited(text, 10, 2147483647).map(|n| n as i32),
     }
 }

@@ -43,9 +43,10 @@ impl Name {
     }
 
     // Whether two names have the same text.
+    #[tactic(auto, using(crate::proofs::Facts::same_names))]
     pub fn same(&self, other: &Name) -> bool
         ensures { result ≡ bytes_eq (text self.now) (text other.now) }
     {
-        same_bytes(self.as_bytes(), other.as_bytes())
+        self == other
     }
 }

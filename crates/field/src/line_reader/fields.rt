@@ -10,6 +10,7 @@ use crate::fault::{FieldFault, FieldRefusal};
 use crate::line_reader::LineReader;
 use crate::parts::Part;
 
+#[tactic(auto, unfolding(crate::specs::Readers::to_come, crate::specs::Readers::rest, crate::specs::Readers::taken, crate::specs::Lines::first_of))]
 impl<'a> LineReader<'a> {
     // A reader before the first field.
     pub fn new(line: &'a [u8], mark: u8) -> LineReader<'a>
@@ -27,26 +28,20 @@ impl<'a> LineReader<'a> {
     pub fn count(&self) -> usize
         ensures { result ≡ length (to_come self.now) }
     {
-        let line = self.line;
-        if self.cursor > line.len() {
+        let Some(rest) = self.line.get(self.cursor..) else {
             return 0;
-        }
-        parts(&line[self.cursor..], self.mark)
+        };
+        parts(rest, self.mark)
     }
 
     // The next field with its place; none where there are no more.
     pub fn next_field(&mut self) -> Option<Part<'a>>
         ensures { MatchOption result (Ended self.old self.new) (λ p. Hands self.old p self.new) }
     {
-        let line = self.line;
-        let from = self.cursor;
-        if from > line.len() {
-            return None;
-        }
-        let rest = &line[from..];
+        let rest = self.line.get(self.cursor..)?;
         let n = place_of(rest, self.mark);
-        let text = &rest[0..n];
-        self.cursor = from + n + 1;
+        let text = &rest[..n];
+        self.cursor += n + 1;
         self.fields += 1;
         Some(Part {
             place: self.fields,
@@ -60,12 +55,6 @@ impl<'a> LineReader<'a> {
         ensures moved { Moved result self.old self.new }
     {
         let place = self.fields + 1;
-        match self.next_field() {
-            Some(part) => Ok(part),
-            None => Err(FieldFault {
-                place,
-                refusal: FieldRefusal::Missing,
-            }),
-        }
+        self.next_field().ok_or(FieldRefusal::Missing.at(place))
     }
 }

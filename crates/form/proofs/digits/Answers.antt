@@ -25,6 +25,6 @@ returns c =
     let p : 10 ^ c.loop-byte.byte-index ≤ 10 ^ 10 = pow-le-pow_right {n = 10} (omega arith) {i = c.loop-byte.byte-index} {j = 10} (omega arith) in
     record { value = grind (arith, nat_tests); bound = omega arith }
 
-pub returns-then-text-eq0 : goal.returns-then-text-eq0
+pub returns-then-is_empty : goal.returns-then-is_empty
 unfolding digits_of
-returns-then-text-eq0 c = record { value = grind (arith, nat_tests); bound = tt }
+returns-then-is_empty c = record { value = grind (arith, nat_tests); bound = tt }

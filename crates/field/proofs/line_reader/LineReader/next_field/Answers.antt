@@ -1,6 +1,5 @@
 use Rattle.std.proofs.Common.{arith}
 use Rattle.std.proofs.lemmas.List.{take_rest}
-use Rattle.std.proofs.lemmas.Bool.Decides.{nat_tests}
 use Rattle.field.specs.Readers.{to_come}
 use Rattle.field.proofs.Splits.{step}
 use Rattle.field.proofs.line_reader.LineReader.next_field.Goals as goal
@@ -11,7 +10,3 @@ returns c =
     let all = take_rest c.args.self.now.line.now c.args.self.now.cursor in
     let s = step c.args.self.now.mark c.args.self.now.line.now c.args.self.now.cursor c.place_of-n.result in
     record { text = grind arith; place = grind arith; count = grind arith }
-
-pub returns-then-from-line : goal.returns-then-from-line
-unfolding to_come
-returns-then-from-line c = record { none = grind (arith, nat_tests); still = grind (arith, nat_tests); count = grind (arith, nat_tests) }
