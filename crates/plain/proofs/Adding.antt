@@ -30,7 +30,7 @@ use Rattle.plain.specs.Meaning.{grammar_of, most_nodes, newest_in, earlier_in, n
 use Rattle.plain.specs.Rows.{row_at, rows_under, KidsKept, RowAdded}
 use Rattle.plain.proofs.Moving.{ends_before}
 
-module _ {C : Type 0} {cost eq : _} (m : Model C) (p : Plain C cost eq) (ns : List Node) (keeps : Keeps m p ns) where
+module _ {C : Type 0} {cost ord eq partial_ord : _} (m : Model C) (p : Plain C cost ord eq partial_ord) (ns : List Node) (keeps : Keeps m p ns) where
   abbrev G : Lists C
   G = grammar_of p
 

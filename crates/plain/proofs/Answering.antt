@@ -33,7 +33,7 @@ number_err : (o : Option NodeNumber) (e f : NodeRefusal) (k : ℕ) → Err f ≡
 number_err None e f k h q = none_some k q
 number_err (Some x) e f k h q = (let z : ◌≡◌ {A = ℕ} 0 1 = cc in omega arith)
 
-module _ {C : Type 0} {cost eq : _} (m : Model C) (p : Plain C cost eq) (ns : List Node) (keeps : Keeps m p ns) (x : CodeNode) (ops : List OperatorOf) (same : ops ≡ (grammar_of p).operators) where
+module _ {C : Type 0} {cost ord eq partial_ord : _} (m : Model C) (p : Plain C cost ord eq partial_ord) (ns : List Node) (keeps : Keeps m p ns) (x : CodeNode) (ops : List OperatorOf) (same : ops ≡ (grammar_of p).operators) where
   abbrev checked : Option NodeRefusal
   checked = check_node (grammar_of p).operators (most_nodes p) ns (node_of x)
 
@@ -64,7 +64,7 @@ module _ {C : Type 0} {cost eq : _} (m : Model C) (p : Plain C cost eq) (ns : Li
         → RowAdded m ρs n.0 x b.newest.now b.earlier.now r.newest.now r.earlier.now
         → AddsPlain checked (Keeps m (record { grammar = p.grammar; nodes = v; rows = r })) ns (node_of x) (Ok (n.0, None))
     adds_more r ρs b n e most rules here added =
-        let q : Plain C cost eq = record { grammar = p.grammar; nodes = v; rows = r } in
+        let q : Plain C cost ord eq partial_ord = record { grammar = p.grammar; nodes = v; rows = r } in
         let number = number_ok o Full n (length ns) e more.0 in
         let at-rules = subst (λ z. RowAdded m z n.0 x b.newest.now b.earlier.now r.newest.now r.earlier.now) rules added in
         let at_places = subst (λ (z : RowPlaces C). RowAdded m (grammar_of p).rules n.0 x z.newest.now z.earlier.now r.newest.now r.earlier.now) here at-rules in

@@ -26,7 +26,7 @@ module _ (most n nodes rows : ℕ) (least : 1 ≤ most) (few : most ≤ 2048) wh
   birth_fits h k = birth_by true (and_from (leb most nodes) (leb (most * n) rows) (le-leb most nodes h) (le-leb (most * n) rows k))
 
 -- a labeller without nodes keeps no rows
-pub keeps_none : {C : Type 0} {cost eq : _} (m : Model C) (p : Plain C cost eq) → Sealed m (grammar_of p) → most_nodes p ≤ 2048 → Stands p.nodes [] [] → length (newest_in p) ≡ count (grammar_of p)
+pub keeps_none : {C : Type 0} {cost ord eq partial_ord : _} (m : Model C) (p : Plain C cost ord eq partial_ord) → Sealed m (grammar_of p) → most_nodes p ≤ 2048 → Stands p.nodes [] [] → length (newest_in p) ≡ count (grammar_of p)
     → most_nodes p * count (grammar_of p) ≤ length (newest_in p) + length (earlier_in p) → Keeps m p []
 keeps_none m p sealed few stands width places = record {
   sealed = sealed;

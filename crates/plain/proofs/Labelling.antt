@@ -12,7 +12,7 @@ use Rattle.label.specs.declared.refusals.AddRefusal.{AddRefusal}
 use Rattle.plain.specs.declared.Plain.{Plain}
 use Rattle.plain.specs.Meaning.{grammar_of, most_nodes, no_labels, Keeps, Emptied, PlainMeans, AddsPlain}
 
-module _ {C : Type 0} {cost eq : _} (m : Model C) (p : Plain C cost eq) (μ : Meaning C) (means : PlainMeans m p μ) where
+module _ {C : Type 0} {cost ord eq partial_ord : _} (m : Model C) (p : Plain C cost ord eq partial_ord) (μ : Meaning C) (means : PlainMeans m p μ) where
   pub plain_sound : Sound m μ
   plain_sound =
       let k = means.keeps in
@@ -29,7 +29,7 @@ module _ {C : Type 0} {cost eq : _} (m : Model C) (p : Plain C cost eq) (μ : Me
   abbrev emptied : Meaning C
   emptied = record { grammar = μ.grammar; most = μ.most; nodes = []; labels = []; rows = μ.rows; keys = μ.keys; room = μ.room }
 
-  empty_means : (q : Plain C cost eq) → Emptied m p q → PlainMeans m q emptied
+  empty_means : (q : Plain C cost ord eq partial_ord) → Emptied m p q → PlainMeans m q emptied
   empty_means q e = record {
     keeps = e.keeps μ.nodes means.keeps;
     grammar = means.grammar ∙ sym e.grammar;
@@ -40,14 +40,14 @@ module _ {C : Type 0} {cost eq : _} (m : Model C) (p : Plain C cost eq) (μ : Me
     room = means.room;
   }
 
-  pub plain_started : (q : Plain C cost eq) → Emptied m p q → (ν : Meaning C) × Started μ ν × PlainMeans m q ν
+  pub plain_started : (q : Plain C cost ord eq partial_ord) → Emptied m p q → (ν : Meaning C) × Started μ ν × PlainMeans m q ν
   plain_started q e = (
     emptied,
     record { fixed = record { grammar = refl; most = refl }; nodes = refl; labels = refl; rows = refl; keys = refl },
     empty_means q e,
   )
 
-  pub plain_cleared : (q : Plain C cost eq) → Emptied m p q → (ν : Meaning C) × Cleared μ ν × PlainMeans m q ν
+  pub plain_cleared : (q : Plain C cost ord eq partial_ord) → Emptied m p q → (ν : Meaning C) × Cleared μ ν × PlainMeans m q ν
   plain_cleared q e = (
     emptied,
     record { fixed = record { grammar = refl; most = refl }; nodes = refl; labels = refl; rows = means.rows; keys = means.keys },
@@ -55,7 +55,7 @@ module _ {C : Type 0} {cost eq : _} (m : Model C) (p : Plain C cost eq) (μ : Me
   )
 
   -- with one more node
-  module _ (q : Plain C cost eq) (grammar : grammar_of q ≡ grammar_of p) (most : most_nodes q ≡ most_nodes p) (x : Node) (r : Result (ℕ × Option ℕ) AddRefusal) where
+  module _ (q : Plain C cost ord eq partial_ord) (grammar : grammar_of q ≡ grammar_of p) (most : most_nodes q ≡ most_nodes p) (x : Node) (r : Result (ℕ × Option ℕ) AddRefusal) where
     abbrev more : Meaning C
     more = record { grammar = μ.grammar; most = μ.most; nodes = μ.nodes ++ x ∷ []; labels = μ.labels ++ None ∷ []; rows = μ.rows; keys = μ.keys; room = μ.room }
 

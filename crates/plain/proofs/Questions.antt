@@ -15,7 +15,7 @@ use Rattle.plain.specs.Rows.{row_at, rule_in}
 use Rattle.plain.proofs.RowRules.{cost_rule}
 use Rattle.plain.proofs.Moving.{ends_before}
 
-module _ {C : Type 0} {cost eq : _} (m : Model C) (p : Plain C cost eq) (ns : List Node) (keeps : Keeps m p ns) (i n : ℕ) where
+module _ {C : Type 0} {cost ord eq partial_ord : _} (m : Model C) (p : Plain C cost ord eq partial_ord) (ns : List Node) (keeps : Keeps m p ns) (i n : ℕ) where
   pub choice_not : length ns ≤ i → None ≡ choice_of m (grammar_of p) (subtree ns i) n
   choice_not h = sym (ap (λ z. choice_of m (grammar_of p) z n) (get_or_past (subtrees_after [] ns) i None (omega (arith, subtrees_length ns []))))
 

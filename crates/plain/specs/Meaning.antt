@@ -19,17 +19,17 @@ use Rattle.plain.specs.Birth.{birth}
 use Rattle.plain.specs.Rows.{row_at}
 
 -- the grammar of a plain labeller, and the largest number of its nodes
-abbrev pub grammar_of : {C : Type 0} {cost eq : _} → Plain C cost eq → Lists C
+abbrev pub grammar_of : {C : Type 0} {cost ord eq partial_ord : _} → Plain C cost ord eq partial_ord → Lists C
 grammar_of p = grammar_lists p.grammar.now
 
-abbrev pub most_nodes : {C : Type 0} {cost eq : _} → Plain C cost eq → ℕ
+abbrev pub most_nodes : {C : Type 0} {cost ord eq partial_ord : _} → Plain C cost ord eq partial_ord → ℕ
 most_nodes p = most_of p.nodes
 
 -- its row places: those of the newest node, and those of the nodes before it
-abbrev pub newest_in : {C : Type 0} {cost eq : _} → Plain C cost eq → List (Option (Work C))
+abbrev pub newest_in : {C : Type 0} {cost ord eq partial_ord : _} → Plain C cost ord eq partial_ord → List (Option (Work C))
 newest_in p = p.rows.newest.now
 
-abbrev pub earlier_in : {C : Type 0} {cost eq : _} → Plain C cost eq → List (Option (Work C))
+abbrev pub earlier_in : {C : Type 0} {cost ord eq partial_ord : _} → Plain C cost ord eq partial_ord → List (Option (Work C))
 earlier_in p = p.rows.earlier.now
 
 -- no node has a label
@@ -37,7 +37,7 @@ abbrev pub no_labels : List Node → List (Option ℕ)
 no_labels ns = map (λ _. None) ns
 
 -- p means the nodes ns: it keeps the row of each, with the least costs themselves. The row of the newest node has places of its own.
-pub record Keeps {C : Type 0} {cost eq : _} (m : Model C) (p : Plain C cost eq) (ns : List Node) : Type 0 where
+pub record Keeps {C : Type 0} {cost ord eq partial_ord : _} (m : Model C) (p : Plain C cost ord eq partial_ord) (ns : List Node) : Type 0 where
   pub sealed : Sealed m (grammar_of p)
   pub few : most_nodes p ≤ 2048
   pub stands : Stands p.nodes ns (no_labels ns)
@@ -49,19 +49,19 @@ pub record Keeps {C : Type 0} {cost eq : _} (m : Model C) (p : Plain C cost eq) 
 
 -- what a birth answers, over the grammar G, for trees of up to most nodes, with so many node places and row places: a refusal exactly
 -- where there is a reason for one, and else a labeller without nodes
-abbrev pub Born : {C : Type 0} {cost eq : _} → Model C → Lists C → ℕ → ℕ → ℕ → Result (Plain C cost eq) BirthRefusal → Type 0
+abbrev pub Born : {C : Type 0} {cost ord eq partial_ord : _} → Model C → Lists C → ℕ → ℕ → ℕ → Result (Plain C cost ord eq partial_ord) BirthRefusal → Type 0
 Born m G most nodes rows (Err e) = birth most (count G) nodes rows ≡ Some e
 Born m G most nodes rows (Ok p) = (birth most (count G) nodes rows ≡ None) × (grammar_of p ≡ G) × (most_nodes p ≡ most) × (Sealed m G → Keeps m p [])
 
 -- from p, the labeller q once the list of nodes became empty
-pub record Emptied {C : Type 0} {cost eq : _} (m : Model C) (p q : Plain C cost eq) : Type 0 where
+pub record Emptied {C : Type 0} {cost ord eq partial_ord : _} (m : Model C) (p q : Plain C cost ord eq partial_ord) : Type 0 where
   pub grammar : grammar_of q ≡ grammar_of p
   pub most : most_nodes q ≡ most_nodes p
   pub rows : q.rows ≡ p.rows
   pub keeps : (ns : List Node) → Keeps m p ns → Keeps m q []
 
 -- as a labeller: no node has a label, no row and no key is held, and there is always room
-pub record PlainMeans {C : Type 0} {cost eq : _} (m : Model C) (p : Plain C cost eq) (μ : Meaning C) : Type 0 where
+pub record PlainMeans {C : Type 0} {cost ord eq partial_ord : _} (m : Model C) (p : Plain C cost ord eq partial_ord) (μ : Meaning C) : Type 0 where
   pub keeps : Keeps m p μ.nodes
   pub grammar : μ.grammar ≡ grammar_of p
   pub most : μ.most ≡ most_nodes p
