@@ -41,33 +41,26 @@ fn next_word<'a>(fields: &mut LineReader<'a>) -> &'a [u8]
     ensures value { result.now ≡ word (to_come fields.old) }
     ensures after { to_come fields.new ≡ rest (to_come fields.old) }
 {
-    match fields.next_field() {
-        Some(part) => part.text,
-        None => &[],
-    }
+    fields.next_field().map_or(&[], |part| part.text)
 }
 
 fn make_of(word: &[u8]) -> Option<Make>
     ensures { result ≡ make_of word.now }
 {
-    if same_bytes(word, b"bytes") {
-        Some(Make::Bytes)
-    } else if same_bytes(word, b"cycles") {
-        Some(Make::Cycles)
-    } else {
-        None
+    match word {
+        b"bytes" => Some(Make::Bytes),
+        b"cycles" => Some(Make::Cycles),
+        _ => None,
     }
 }
 
 fn labelling_of(word: &[u8]) -> Option<Labelling>
     ensures { result ≡ labelling_of word.now }
 {
-    if same_bytes(word, b"table") {
-        Some(Labelling::Table)
-    } else if same_bytes(word, b"plain") {
-        Some(Labelling::Plain)
-    } else {
-        None
+    match word {
+        b"table" => Some(Labelling::Table),
+        b"plain" => Some(Labelling::Plain),
+        _ => None,
     }
 }
 
@@ -92,12 +85,8 @@ pub fn header_of(line: &[u8]) -> Result<Header, LineFault>
     if !same_bytes(next_word(&mut fields), b"cost") {
         return Err(refused(1, LineRefusal::Unknown));
     }
-    let Some(make) = make_of(next_word(&mut fields)) else {
-        return Err(refused(2, LineRefusal::Unknown));
-    };
-    let Some(labelling) = labelling_of(next_word(&mut fields)) else {
-        return Err(refused(3, LineRefusal::Unknown));
-    };
+    let make = make_of(next_word(&mut fields)).ok_or(refused(2, LineRefusal::Unknown))?;
+    let labelling = labelling_of(next_word(&mut fields)).ok_or(refused(3, LineRefusal::Unknown))?;
     match fields.next_field() {
         Some(_) => Err(refused(0, LineRefusal::Miscounted)),
         None => Ok(Header { make, labelling }),

@@ -2,8 +2,6 @@
 ghost use Rattle.std.specs.Prelude.{◌≡◌};
 ghost use Rattle.entry.specs.Entries.{kind_of, width};
 
-use name::same_bytes;
-
 #[derive(Clone, Copy, Debug, PartialEq, Eq)]
 pub enum Kind {
     Operator,
@@ -16,16 +14,12 @@ pub enum Kind {
 pub fn kind_of(word: &[u8]) -> Option<Kind>
     ensures { result ≡ kind_of word.now }
 {
-    if same_bytes(word, b"op") {
-        Some(Kind::Operator)
-    } else if same_bytes(word, b"nt") {
-        Some(Kind::Nonterminal)
-    } else if same_bytes(word, b"base") {
-        Some(Kind::Base)
-    } else if same_bytes(word, b"chain") {
-        Some(Kind::Chain)
-    } else {
-        None
+    match word {
+        b"op" => Some(Kind::Operator),
+        b"nt" => Some(Kind::Nonterminal),
+        b"base" => Some(Kind::Base),
+        b"chain" => Some(Kind::Chain),
+        _ => None,
     }
 }
 

@@ -38,6 +38,7 @@ pub enum Entry {
     },
 }
 
+// No type keeps the `requires` of these five: the first field that one of them reads would break it.
 fn operator_entry(fields: &mut LineReader) -> Result<Entry, FieldFault>
     requires { next_place fields.old ≡ 2 }
     ensures { map_ok entry_view result ≡ operator_fields (to_come fields.old) }
@@ -115,12 +116,8 @@ pub fn entry_of(line: &[u8]) -> Result<Entry, LineFault>
     }
     let mut fields = LineReader::new(line, b',');
     let count = fields.count();
-    let Some(head) = fields.next_field() else {
-        return Err(refused(1, LineRefusal::Unknown));
-    };
-    let Some(kind) = kind_of(head.text) else {
-        return Err(refused(1, LineRefusal::Unknown));
-    };
+    let kind = fields.next_field().and_then(|head| kind_of(head.text));
+    let kind = kind.ok_or(refused(1, LineRefusal::Unknown))?;
     if count != kind.width() {
         return Err(refused(0, LineRefusal::Miscounted));
     }

@@ -106,10 +106,7 @@ pub fn nt_line(heap: Global, number: usize, name: &[u8]) -> Result<Vec<u8>, Allo
 fn kid_field(kid: Option<&[u8]>) -> &[u8]
     ensures { result.now ≡ kid_field (option_map (λ x. x.now) kid.entry) }
 {
-    match kid {
-        Some(name) => name,
-        None => b"-",
-    }
+    kid.unwrap_or(b"-")
 }
 
 // The fields of a base rule but for its cost, with names in place of numbers.
@@ -135,6 +132,7 @@ pub fn base_line(heap: Global, rule: BaseFields<'_>, cost: &[i32]) -> Result<Vec
 }
 
 // The fields of a chain rule but for its cost, with names in place of numbers.
+// A struct beside `BaseFields`: one for both would hold an operator and kids that no chain rule has.
 #[derive(Clone, Copy)]
 pub struct ChainFields<'a> {
     pub number: usize,

@@ -3,7 +3,7 @@ ghost use Rattle.std.specs.Prelude.{◌≡◌};
 ghost use Rattle.std.specs.Str.{bytes_eq};
 ghost use Rattle.name.specs.Texts.{name_byte, is_name};
 
-// Whether two texts are equal. Public, so it stays: `==` on slices of bytes says the same.
+// Whether two texts are equal. It takes `b"cost"` as it is, where `==` wants `b"cost".as_slice()`.
 pub fn same_bytes(one: &[u8], other: &[u8]) -> bool
     ensures { result ≡ bytes_eq one.now other.now }
 {
