@@ -4,7 +4,7 @@
 
 pub mod declarations;
 pub mod draft;
-mod finding;
+pub mod finding;
 pub mod grammar;
 pub mod parts;
 pub mod questions;
