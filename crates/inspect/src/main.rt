@@ -13,6 +13,7 @@ const ENOUGH: u64 = LONGEST_FILE as u64 + 1;
 
 // The path that is given after the program's name, or `machine.txt`.
 fn path(rt: &HostRuntime) -> io::Result<String> {
+    // A match: making the default may fail.
     match env::args(rt)?.nth(1) {
         Some(path) => Ok(path),
         None => Ok(String::from_str(rt.alloc(), "machine.txt")?),

@@ -1,7 +1,7 @@
 -- What `inspect` prints of a machine file.
-use Rattle.std.specs.Prelude.{ℕ, ◌+◌, List, [], ◌∷◌, ◌++◌, length, ℤ, Some, None, Ok, Err, Result}
+use Rattle.std.specs.Prelude.{ℕ, ◌+◌, List, [], ◌∷◌, ◌++◌, map, length, ℤ, Some, None, Ok, Err, Result}
 use Rattle.std.specs.List.{slice_get}
-use Rattle.std.specs.Option.{option_map, unwrap_or}
+use Rattle.std.specs.Option.{unwrap_or}
 use Rattle.cost.specs.declared.Count.{Count}
 use Rattle.cost.specs.declared.Pair.{Pair}
 use Rattle.grammar.specs.Lists.{Text, OperatorOf, FormOf, chain, base0, base1, base2, RuleOf, Lists}
@@ -21,12 +21,15 @@ unfoldable pub lines_text : {A : Type 0} → (ℕ → A → Text) → ℕ → Li
 lines_text f i [] = []
 lines_text f i (x ∷ xs) = ended (f i x) ++ lines_text f (i + 1) xs
 
--- the name of the operator or nonterminal of a number; empty where there is none
+-- the name of a number; empty where there is none
+abbrev pub name_at : List Text → ℕ → Text
+name_at names i = unwrap_or (slice_get names i) []
+
 abbrev pub operator_name : {C : Type 0} → Lists C → ℕ → Text
-operator_name G o = unwrap_or (option_map (λ (x : OperatorOf). x.name) (slice_get G.operators o)) []
+operator_name G o = name_at (map (λ (x : OperatorOf). x.name) G.operators) o
 
 abbrev pub nonterminal_name : {C : Type 0} → Lists C → ℕ → Text
-nonterminal_name G n = unwrap_or (slice_get G.nonterminals n) []
+nonterminal_name G n = name_at G.nonterminals n
 
 abbrev pub operator_line : ℕ → OperatorOf → Text
 operator_line n x = op_line n x.name x.kids

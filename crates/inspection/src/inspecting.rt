@@ -10,7 +10,7 @@ use fault::{MachineFault, Refusal};
 use grammar::declarations::Declarations;
 use grammar::grammar::Grammar;
 use listing::{Source, counts_line, ended, fault_line};
-use machine::{Machine, ReadError, read};
+use machine::{Machine, ReadError, in_file, read};
 use std::alloc::{AllocError, Global};
 use tariff::Figures;
 
@@ -25,6 +25,7 @@ fn push_lines<C, T: Listed<C>>(
     ensures { OnOk result (text.new.items ≡ text.old.items ++ lines_text (T.Listed.written (declared_lists declarations.now)) first items.now) }
 {
     let heap = *text.allocator();
+    // Enumerated: the range `first..` ends before the greatest number, and items without size may be as many.
     for (i, item) in items.iter().enumerate() {
         let line = ended(item.line(heap, declarations, first + i)?)?;
         text.extend_from_slice(&line)?;
@@ -85,10 +86,5 @@ pub fn inspect_text(heap: Global, file: &[u8]) -> Result<Vec<u8>, AllocError>
 pub fn unreadable_text(heap: Global) -> Result<Vec<u8>, AllocError>
     ensures { IfOk result (λ v. v.items ≡ unreadable) }
 {
-    let fault = MachineFault {
-        line: 0,
-        field: 0,
-        refusal: Refusal::File,
-    };
-    fault_text(heap, &fault)
+    fault_text(heap, &in_file(Refusal::File))
 }

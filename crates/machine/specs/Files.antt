@@ -36,10 +36,6 @@ numbered n ((x ∷ xs) ∷ ps) = (n, x ∷ xs) ∷ numbered (n + 1) ps
 abbrev pub lines_of : Text → List (ℕ × Text)
 lines_of xs = numbered 1 (split_at 10 xs)
 
--- how many operators, nonterminals and rules the lists of a draft have
-abbrev pub declaration_count : {C : Type 0} → Lists C → ℕ
-declaration_count G = length G.operators + length G.nonterminals + length G.rules
-
 -- what an entry does to the lists of a draft
 abbrev pub drafted : {C : Type 0} → Model C → (ℕ → ℕ → C) → Lists C → EntryOf → Result (Lists C) DraftRefusal
 drafted m price G (operator name kids) = declare_operator G name kids

@@ -1,16 +1,14 @@
 // Taking the lines of a machine file into a draft.
 ghost use Rattle.std.specs.Prelude.{◌≡◌, Ok, Err, MatchResult, OnErr};
-ghost use Rattle.name.specs.Outcomes.{map_err};
-ghost use Rattle.field.specs.Readers.{to_come, next_place};
 ghost use Rattle.grammar.specs.Drafting.{lists_after};
 ghost use Rattle.grammar.specs.Meaning.{draft_lists};
 ghost use Rattle.entry.specs.EntryViews.{entry_view};
-ghost use Rattle.machine.specs.Files.{drafted, taken, all_taken, numbered, in_line};
+ghost use Rattle.machine.specs.Files.{drafted, taken, all_taken};
 
-use crate::lines::next_line;
+use crate::lines::Lines;
+use crate::places::in_line;
 use entry::{Entry, entry_of};
 use fault::{LineFault, MachineFault};
-use field::LineReader;
 use grammar::draft::Draft;
 use grammar::refusal::DraftRefusal;
 use tariff::Tariff;
@@ -50,23 +48,6 @@ pub fn declare<C: Tariff>(draft: &mut Draft<C>, entry: Entry) -> Result<(), Draf
     Ok(())
 }
 
-// An outcome of a line, with the line's number in its fault.
-pub(crate) fn in_line<T: Drop>(
-    line: usize,
-    outcome: Result<T, LineFault>,
-) -> Result<T, MachineFault>
-    ensures { result ≡ map_err (in_line line) outcome }
-{
-    match outcome {
-        Ok(value) => Ok(value),
-        Err(fault) => Err(MachineFault {
-            line,
-            field: fault.field,
-            refusal: fault.refusal,
-        }),
-    }
-}
-
 // Takes a line into a draft.
 pub fn take_line<C: Tariff>(draft: &mut Draft<C>, line: &[u8]) -> Result<(), LineFault>
     ensures outcome { MatchResult result (λ _. taken C.Cost.model C.Tariff.priced (draft_lists draft.old) line.now ≡ Ok (draft_lists draft.new)) (λ e. taken C.Cost.model C.Tariff.priced (draft_lists draft.old) line.now ≡ Err e) }
@@ -78,14 +59,12 @@ pub fn take_line<C: Tariff>(draft: &mut Draft<C>, line: &[u8]) -> Result<(), Lin
 }
 
 // Takes the lines that are left into a draft, up to the first fault.
-pub fn take_lines<C: Tariff>(
-    draft: &mut Draft<C>,
-    lines: &mut LineReader,
-) -> Result<(), MachineFault>
-    ensures outcome { MatchResult result (λ _. all_taken C.Cost.model C.Tariff.priced (draft_lists draft.old) (numbered (next_place lines.old) (to_come lines.old)) ≡ Ok (draft_lists draft.new)) (λ e. all_taken C.Cost.model C.Tariff.priced (draft_lists draft.old) (numbered (next_place lines.old) (to_come lines.old)) ≡ Err e) }
+#[tactic(auto, unfolding(crate::specs::Files::all_taken))]
+pub fn take_lines<C: Tariff>(draft: &mut Draft<C>, lines: &mut Lines) -> Result<(), MachineFault>
+    ensures outcome { MatchResult result (λ _. all_taken C.Cost.model C.Tariff.priced (draft_lists draft.old) lines.old ≡ Ok (draft_lists draft.new)) (λ e. all_taken C.Cost.model C.Tariff.priced (draft_lists draft.old) lines.old ≡ Err e) }
 {
-    while let Some(part) = next_line(lines) {
-        in_line(part.place, take_line(draft, part.text))?;
+    for part in lines {
+        take_line(draft, part.text).map_err(|fault| in_line(part.place, fault))?;
     }
     Ok(())
 }

@@ -2,14 +2,15 @@
 
 #![tactic(auto)]
 
+mod asked;
 pub mod drafting;
 mod drafts;
 pub mod file;
-mod into;
 pub mod lines;
 pub mod machine;
+mod places;
 
 pub use drafts::Drafts;
-pub use file::read;
-pub use into::read_into;
+pub use file::{read, read_into};
 pub use machine::{Machine, ReadError};
+pub use places::in_file;

@@ -177,17 +177,10 @@ fn fields_have_places(rt: HostRuntime) -> Result<(), Fail> {
         check_case(&rt, i, part.text, text.as_bytes());
         check_case(&rt, i, fields.count(), *left);
     }
-    match fields.part() {
-        Ok(_) => Err(Fail::new("a sixth field")),
-        Err(fault) => {
-            assert_eq!(rt;
-                fault,
-                FieldFault {
-                    place: 6,
-                    refusal: FieldRefusal::Missing,
-                }
-            );
-            Ok(())
-        },
-    }
+    let missing = FieldFault {
+        place: 6,
+        refusal: FieldRefusal::Missing,
+    };
+    assert_eq!(rt; fields.part().err(), Some(missing));
+    Ok(())
 }

@@ -90,23 +90,19 @@ fn check_machine<C: Figures + Copy>(
 #[test]
 fn a_machine_in_bytes(rt: HostRuntime) -> Result<(), Fail> {
     let text = format!(in rt.alloc(); "cost,bytes,table\n{LINES}")?;
-    match read(rt.alloc(), text.as_bytes())? {
-        Machine::Bytes { labelling, grammar } => {
-            assert_eq!(rt; labelling, Labelling::Table);
-            check_machine(&rt, rt.alloc(), grammar.declarations(), &BYTES)
-        }
-        Machine::Cycles { .. } => Err(Fail::new("cycles")),
-    }
+    let Machine::Bytes { labelling, grammar } = read(rt.alloc(), text.as_bytes())? else {
+        return Err(Fail::new("cycles"));
+    };
+    assert_eq!(rt; labelling, Labelling::Table);
+    check_machine(&rt, rt.alloc(), grammar.declarations(), &BYTES)
 }
 
 #[test]
 fn a_machine_in_cycles(rt: HostRuntime) -> Result<(), Fail> {
     let text = format!(in rt.alloc(); "cost,cycles,plain\n{LINES}")?;
-    match read(rt.alloc(), text.as_bytes())? {
-        Machine::Cycles { labelling, grammar } => {
-            assert_eq!(rt; labelling, Labelling::Plain);
-            check_machine(&rt, rt.alloc(), grammar.declarations(), &CYCLES)
-        }
-        Machine::Bytes { .. } => Err(Fail::new("bytes")),
-    }
+    let Machine::Cycles { labelling, grammar } = read(rt.alloc(), text.as_bytes())? else {
+        return Err(Fail::new("bytes"));
+    };
+    assert_eq!(rt; labelling, Labelling::Plain);
+    check_machine(&rt, rt.alloc(), grammar.declarations(), &CYCLES)
 }

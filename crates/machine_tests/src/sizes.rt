@@ -23,9 +23,7 @@ static LONG: [Long; 12] = [
 
 fn filled(heap: Global, start: &[u8], byte: u8, len: usize) -> Result<Vec<u8>, AllocError> {
     let mut text = Vec::from_slice(heap, start)?;
-    for _ in start.len()..len {
-        text.push(byte)?;
-    }
+    text.resize(len, byte)?;
     Ok(text)
 }
 
