@@ -1,7 +1,6 @@
 -- The lines of a grammar, as they are written.
-use Rattle.std.proofs.Common.{◌≡◌, ℕ, ◌+◌, ◌<◌, List, [], ◌∷◌, ◌++◌, map, length, get_or, drop, ℤ, sym, refl, ap, ◌∙◌, append_assoc, arith}
+use Rattle.std.proofs.Common.{◌≡◌, ℕ, ◌+◌, List, [], ◌∷◌, ◌++◌, map, length, ℤ, sym, refl, ap, ◌∙◌, append_assoc}
 use lib.ListN.{length-map}
-use Rattle.std.proofs.lemmas.List.{at_drop_more}
 use Rattle.grammar.specs.Lists.{Text, Lists}
 use Rattle.grammar.specs.Views.{operator_of, nonterminal_of, rule_of}
 use Rattle.grammar.specs.declared.parts.Operator.{Operator}
@@ -9,15 +8,6 @@ use Rattle.grammar.specs.declared.parts.Nonterminal.{Nonterminal}
 use Rattle.grammar.specs.declared.parts.Rule.{Rule}
 use Rattle.listing.specs.Lines.{nt_line, counts_line}
 use Rattle.inspection.specs.Inspections.{ended, lines_text, operator_line, rule_line, grammar_text}
-
-module _ {A : Type 0} (f : ℕ → A → Text) where
-  -- the line of the item at i, and then the lines of those behind it
-  pub one_more : (out : Text) (xs : List A) (first i : ℕ) (x : A) → i < length xs → (out ++ ended (f (first + i) (get_or xs i x))) ++ lines_text f (first + (i + 1)) (drop (i + 1) xs) ≡ out ++ lines_text f (first + i) (drop i xs)
-  unfolding lines_text
-  one_more out xs first i x h =
-      let line = ended (f (first + i) (get_or xs i x)) in
-      let next : first + (i + 1) ≡ first + i + 1 = omega arith in
-      append_assoc out line _ ∙ ap (λ n. out ++ (line ++ lines_text f n (drop (i + 1) xs))) next ∙ sym (ap (λ t. out ++ t) (at_drop_more (lines_text f (first + i)) xs i x h))
 
 module _ {A B : Type 0} (f : ℕ → B → Text) (g : A → B) where
   lines_map : (i : ℕ) (xs : List A) → lines_text (λ n x. f n (g x)) i xs ≡ lines_text f i (map g xs)

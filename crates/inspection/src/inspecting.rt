@@ -15,6 +15,7 @@ use std::alloc::{AllocError, Global};
 use tariff::Figures;
 
 // Adds the lines of the items, of which the first has the number `first`.
+#[tactic(auto, unfolding(crate::specs::Inspections::lines_text))]
 fn push_lines<C, T: Listed<C>>(
     text: &mut Vec<u8>,
     declarations: &Declarations<C>,
