@@ -2,7 +2,7 @@
 use name::Name;
 
 // The number of an operator, from 0 as declared.
-#[derive(Clone, Copy)]
+#[derive(Clone, Copy, PartialEq, Eq, Debug)]
 pub struct OperatorNumber(pub usize);
 
 // The number of a nonterminal, from 0 as declared.
