@@ -3,27 +3,16 @@ use Rattle.std.proofs.Common.{◌≡◌, ℕ, ◌+◌, ◌<◌, ◌≤◌, min, 
 use native.Mathlib.Nat.{min-le_right}
 use Rattle.std.proofs.lemmas.List.{get_or-set_same, get_or-set_other, length-set, length_push, take-map, take_more_set, map_push}
 use Rattle.std.proofs.lemmas.Bool.{cases_lt, and_from, and_left, and_right, lt-ltb, le-ltb, both_ways}
-use Rattle.grammar.specs.declared.parts.OperatorNumber.{OperatorNumber}
 use Rattle.covers.specs.Nodes.{Node, kids, all_kids, Below}
 use Rattle.nodes.specs.declared.Label.{Label}
 use Rattle.nodes.specs.declared.Node.{Node as CodeNode}
 use Rattle.nodes.specs.declared.NodePlace.{NodePlace}
 use Rattle.nodes.specs.declared.NodeNumber.{NodeNumber}
-use Rattle.nodes.specs.declared.NodeKids.{NodeKids}
-use Rattle.nodes.specs.declared.NodeKids.TheVariants.{None as NoKids, One, Two}
 use Rattle.nodes.specs.declared.Nodes.{Nodes}
 use Rattle.nodes.specs.Checks.{among, all_below, pushes}
 use Rattle.nodes.specs.Meaning.{places_of, most_of, Holds, Stands, placed, Stored, Pushed}
-use Rattle.nodes.specs.Views.{top_of, kid_list, node_of, label_of, number_of}
+use Rattle.nodes.specs.Views.{kid_list, node_of, label_of, number_of}
 use Rattle.nodes.proofs.Among.{apart_among, below_apart, below_join, below_raised, all_below_is, below_all, all_kids_more}
-
-top_kids : (op : OperatorNumber) (ks : NodeKids) → kids (top_of op ks) ≡ kid_list ks
-top_kids op NoKids = refl
-top_kids op (One a) = refl
-top_kids op (Two a b) = refl
-
-pub kids_are : (x : CodeNode) → kids (node_of x).top ≡ kid_list x.kids
-kids_are x = top_kids x.operator x.kids
 
 or_assoc : (a b c : Bool) → ((a || b) || c) ≡ (a || (b || c))
 or_assoc true b c = refl
@@ -43,10 +32,10 @@ front_push f n m xs ys zs p e l h q =
 
 module _ (xs ys : List NodePlace) (ns : List Node) (ls : List (Option ℕ)) (x : CodeNode) (l : Option Label) where
   abbrev ks : List ℕ
-  ks = kid_list x.kids
+  ks = kid_list x.top
 
   all_are : all_kids (ns ++ node_of x ∷ []) ≡ all_kids ns ++ ks
-  all_are = all_kids_more ns (node_of x) ∙ ap (λ z. all_kids ns ++ z) (kids_are x)
+  all_are = all_kids_more ns (node_of x)
 
   -- the marks afterwards
   marks_push : Holds xs ns ls → Below (length ns) ks → Stored xs (length ns) x l ys → length ns < length xs
@@ -101,24 +90,23 @@ pushed_false v ns ls x l e s = record {
 
 -- the list is full, or a kid's number is not below the new node's
 pub pushed_none : (v : Nodes) (ns : List Node) (ls : List (Option ℕ)) (x : CodeNode) (l : Option Label) → Stands v ns ls
-    → (most_of v ≤ v.len) ⊎ (all_below v.len (kid_list x.kids) ≡ false) → Pushed v ns ls (node_of x) (label_of l) None v
+    → (most_of v ≤ v.len) ⊎ (all_below v.len (kid_list x.top) ≡ false) → Pushed v ns ls (node_of x) (label_of l) None v
 pushed_none v ns ls x l s (inl h) =
     pushed_false v ns ls (node_of x) (label_of l)
     (and_left (ltb (length ns) (most_of v)) (all_below (length ns) (kids (node_of x).top)) (le-ltb (length ns) (most_of v) (omega (arith, s.count))))
     s
 pushed_none v ns ls x l s (inr h) =
     let e : all_below (length ns) (kids (node_of x).top) ≡ false =
-    ap (all_below (length ns)) (kids_are x) ∙ ap (λ n. all_below n (kid_list x.kids)) (sym s.count) ∙ h in
+    ap (λ n. all_below n (kid_list x.top)) (sym s.count) ∙ h in
     pushed_false v ns ls (node_of x) (label_of l) (and_right (ltb (length ns) (most_of v)) (all_below (length ns) (kids (node_of x).top)) e) s
 
 pub pushed_new : (v u : Nodes) (ns : List Node) (ls : List (Option ℕ)) (x : CodeNode) (l : Option Label) (r : Option NodeNumber)
-    → Stands v ns ls → v.len < most_of v → all_below v.len (kid_list x.kids) ≡ true
+    → Stands v ns ls → v.len < most_of v → all_below v.len (kid_list x.top) ≡ true
     → Stored (places_of v) v.len x l (places_of u) → u.len ≡ v.len + 1 → u.most ≡ v.most → number_of r ≡ Some v.len
     → Pushed v ns ls (node_of x) (label_of l) r u
 pushed_new v u ns ls x l r s room h st len most a =
     let n : v.len ≡ length ns = s.count in
-    let b : all_below (length ns) (kid_list x.kids) ≡ true = ap (λ z. all_below z (kid_list x.kids)) (sym n) ∙ h in
-    let b' : all_below (length ns) (kids (node_of x).top) ≡ true = ap (all_below (length ns)) (kids_are x) ∙ b in
+    let b : all_below (length ns) (kid_list x.top) ≡ true = ap (λ z. all_below z (kid_list x.top)) (sym n) ∙ h in
     let st' : Stored (places_of v) (length ns) x l (places_of u) = subst (λ z. Stored (places_of v) z x l (places_of u)) n st in
     let places = min-le_right v.most (length (places_of v)) in
     let long : length (places_of u) ≡ length (places_of v) = st.size ∙ length-set (places_of v) v.len (placed x l) in
@@ -127,13 +115,13 @@ pushed_new v u ns ls x l r s room h st len most a =
     let labels = length_push ls (label_of l) in
     let labelled = s.labelled in
     pushed_true v u ns ls (node_of x) (label_of l) r
-    (and_from (ltb (length ns) (most_of v)) (all_below (length ns) (kids (node_of x).top)) (lt-ltb (length ns) (most_of v) (omega arith)) b')
+    (and_from (ltb (length ns) (most_of v)) (all_below (length ns) (kids (node_of x).top)) (lt-ltb (length ns) (most_of v) (omega arith)) b)
     (a ∙ ap {B = Option ℕ} Some n)
     record {
       count = omega arith;
       few = omega arith;
       labelled = omega arith;
-      holds = holds_push (places_of v) (places_of u) ns ls x l s.holds (all_below_is (length ns) (kid_list x.kids) b) st' (omega arith);
+      holds = holds_push (places_of v) (places_of u) ns ls x l s.holds (all_below_is (length ns) (kid_list x.top) b) st' (omega arith);
     }
 
 -- A push that appends, for a proof above: the list has room, and each kid's number is below the new node's.

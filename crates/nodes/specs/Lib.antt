@@ -2,4 +2,3 @@ pub mod Views
 pub mod Checks
 pub mod Meaning
 pub mod Theorems
-pub mod Kids

@@ -45,7 +45,7 @@ placed x l = record { node = x; label = l; is_kid = false }
 
 -- From the places xs, the places ys once x is put into place n and its kids are marked.
 abbrev pub Stored : List NodePlace → ℕ → CodeNode → Option Label → List NodePlace → Type 0
-Stored xs n x l ys = Marked (slice_set xs n (placed x l)) (kid_list x.kids) ys
+Stored xs n x l ys = Marked (slice_set xs n (placed x l)) (kid_list x.top) ys
 
 -- What a push of x with the label l does to a list that means ns and ls: the answer, the list afterwards, and the memory where
 -- nothing is appended.

@@ -13,9 +13,8 @@ ghost use Rattle.nodes.specs.Meaning.{places_of, most_of, Stands, Marked, Stored
 ghost use Rattle.nodes.specs.Theorems.{ChecksAreRight};
 ghost use Rattle.nodes.specs.Views.{kid_list, node_of, label_of, unused_place};
 
+use applied::Applied;
 use grammar::parts::{Operator, OperatorNumber};
-
-mod kids;
 
 /// The number of a node, from 0 in each tree.
 #[derive(Clone, Copy, PartialEq, Eq, Debug)]
@@ -25,19 +24,11 @@ pub struct NodeNumber(pub usize);
 #[derive(Clone, Copy, PartialEq, Eq, Debug)]
 pub struct Label(pub usize);
 
-/// The kids of a node, the left one first.
-#[derive(Clone, Copy)]
-pub enum NodeKids {
-    None,
-    One(NodeNumber),
-    Two(NodeNumber, NodeNumber),
-}
-
+/// A node: its operator with the numbers of its kids, and its payload.
 #[derive(Clone, Copy)]
 pub struct Node {
-    pub operator: OperatorNumber,
+    pub top: Applied<NodeNumber>,
     pub payload: i32,
-    pub kids: NodeKids,
 }
 
 /// One lent place: a node, its label, and whether it is a kid of another node.
@@ -54,9 +45,8 @@ impl NodePlace {
         ensures { result ≡ unused_place }
     {
         let node = Node {
-            operator: OperatorNumber(0),
+            top: Applied::Leaf(OperatorNumber(0)),
             payload: 0,
-            kids: NodeKids::None,
         };
         NodePlace {
             node,
@@ -94,24 +84,24 @@ impl NodeRefusal {
 }
 
 // How many kids there are.
-fn count_of(kids: &NodeKids) -> u8
-    ensures { result ≡ length (kid_list kids.now) }
+fn count_of(top: &Applied<NodeNumber>) -> u8
+    ensures { result ≡ length (kid_list top.now) }
 {
-    match *kids {
-        NodeKids::None => 0,
-        NodeKids::One(_) => 1,
-        NodeKids::Two(_, _) => 2,
+    match *top {
+        Applied::Leaf(_) => 0,
+        Applied::Unary(_, _) => 1,
+        Applied::Binary(_, _, _) => 2,
     }
 }
 
 // Whether each kid's number is below the given one.
-fn all_below(kids: &NodeKids, number: usize) -> bool
-    ensures { result ≡ all_below number (kid_list kids.now) }
+fn all_below(top: &Applied<NodeNumber>, number: usize) -> bool
+    ensures { result ≡ all_below number (kid_list top.now) }
 {
-    match *kids {
-        NodeKids::None => true,
-        NodeKids::One(kid) => kid.0 < number,
-        NodeKids::Two(left, right) => left.0 < number && right.0 < number,
+    match *top {
+        Applied::Leaf(_) => true,
+        Applied::Unary(_, kid) => kid.0 < number,
+        Applied::Binary(_, left, right) => left.0 < number && right.0 < number,
     }
 }
 
@@ -125,13 +115,13 @@ fn mark(places: &mut [NodePlace], kid: NodeNumber)
 }
 
 // Marks the places of the kids.
-fn mark_kids(places: &mut [NodePlace], kids: &NodeKids)
-    ensures { Marked places.old (kid_list kids.now) places.new }
+fn mark_kids(places: &mut [NodePlace], top: &Applied<NodeNumber>)
+    ensures { Marked places.old (kid_list top.now) places.new }
 {
-    match *kids {
-        NodeKids::None => {}
-        NodeKids::One(kid) => mark(places, kid),
-        NodeKids::Two(left, right) => {
+    match *top {
+        Applied::Leaf(_) => {}
+        Applied::Unary(_, kid) => mark(places, kid),
+        Applied::Binary(_, left, right) => {
             mark(places, left);
             mark(places, right);
         }
@@ -148,7 +138,7 @@ fn store(places: &mut [NodePlace], place: usize, node: Node, label: Option<Label
         label,
         is_kid: false,
     };
-    mark_kids(places, &node.kids);
+    mark_kids(places, &node.top);
 }
 
 /// The nodes of the open tree, each with its label or none, in lent places: the first `len` of them, in the order of entering.
@@ -232,13 +222,13 @@ impl<'a> Nodes<'a> {
     }
 
     // Whether each kid is free, and none is given twice.
-    fn are_free(&self, kids: &NodeKids) -> bool
-        ensures { (ns : List NodeOf) (ls : List (Maybe ℕ)) → Stands self.now ns ls → result ≡ all_free ns (kid_list kids.now) }
+    fn are_free(&self, top: &Applied<NodeNumber>) -> bool
+        ensures { (ns : List NodeOf) (ls : List (Maybe ℕ)) → Stands self.now ns ls → result ≡ all_free ns (kid_list top.now) }
     {
-        match *kids {
-            NodeKids::None => true,
-            NodeKids::One(kid) => self.is_free(kid),
-            NodeKids::Two(left, right) => self.is_free(left)
+        match *top {
+            Applied::Leaf(_) => true,
+            Applied::Unary(_, kid) => self.is_free(kid),
+            Applied::Binary(_, left, right) => self.is_free(left)
                 && left.0 != right.0
                 && self.is_free(right),
         }
@@ -249,14 +239,14 @@ impl<'a> Nodes<'a> {
         ensures answer { (ns : List NodeOf) (ls : List (Maybe ℕ)) → Stands self.now ns ls → result ≡ check_answer (check_node (map operator_of operators.now) (most_of self.now) ns (node_of node.now)) }
         ensures right { ChecksAreRight }
     {
-        let operator = node.operator.0;
+        let operator = node.top.operator().0;
         if operator >= operators.len() {
             return Err(NodeRefusal::Operator);
         }
-        if operators[operator].kids != count_of(&node.kids) {
+        if operators[operator].kids != count_of(&node.top) {
             return Err(NodeRefusal::Kids);
         }
-        if !self.are_free(&node.kids) {
+        if !self.are_free(&node.top) {
             return Err(NodeRefusal::Kid);
         }
         if self.count() >= self.most() {
@@ -277,7 +267,7 @@ impl<'a> Nodes<'a> {
         if place >= self.most() {
             return None;
         }
-        if !all_below(&node.kids, place) {
+        if !all_below(&node.top, place) {
             return None;
         }
         store(self.places, place, node, label);
