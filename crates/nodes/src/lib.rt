@@ -2,14 +2,14 @@
 
 #![tactic(auto)]
 
-ghost use Rattle.std.specs.Prelude.{◌≡◌, ℕ, ◌<◌, ◌≤◌, min, List, [], ◌∷◌, map, length, Option as Maybe};
+ghost use Rattle.std.specs.Prelude.{◌≡◌, ◌<◌, ◌≤◌, true, [], ◌∷◌, map, length, take};
 ghost use Rattle.std.specs.List.{slice_get};
 ghost use Rattle.std.specs.Option.{option_map};
 ghost use Rattle.grammar.specs.Views.{operator_of};
-ghost use Rattle.covers.specs.Nodes.{Node as NodeOf};
+ghost use Rattle.covers.specs.Nodes.{all_kids};
 ghost use Rattle.covers.specs.Ranks.{at};
 ghost use Rattle.nodes.specs.Checks.{refusal_number, free, all_free, all_below, check_node, check_answer};
-ghost use Rattle.nodes.specs.Meaning.{places_of, most_of, Stands, Marked, Stored, Pushed};
+ghost use Rattle.nodes.specs.Places.{nodes_in, MarksKids, Marked, Stored};
 ghost use Rattle.nodes.specs.Theorems.{ChecksAreRight};
 ghost use Rattle.nodes.specs.Views.{kid_list, node_of, label_of, unused_place};
 
@@ -109,6 +109,7 @@ fn all_below(top: &Applied<NodeNumber>, number: usize) -> bool
 fn mark(places: &mut [NodePlace], kid: NodeNumber)
     ensures { Marked places.old (kid.0 ∷ []) places.new }
 {
+    // Bounds test: the contract of a slice's `get_mut` does not say what the slice holds after the write.
     if kid.0 < places.len() {
         places[kid.0].is_kid = true;
     }
@@ -142,21 +143,31 @@ fn store(places: &mut [NodePlace], place: usize, node: Node, label: Option<Label
 }
 
 /// The nodes of the open tree, each with its label or none, in lent places: the first `len` of them, in the order of entering.
+// Lent places with the count of those in use beside them: the list uses no heap.
 #[derive(Drop)]
 pub struct Nodes<'a> {
     places: &'a mut [NodePlace],
     most: usize,
     len: usize,
+    ghost fits: { most ≤ length places.now },
+    ghost few: { len ≤ most },
+    ghost marks: { MarksKids len places.now },
+    ghost below: { all_below len (all_kids (nodes_in len places.now)) ≡ true },
 }
 
 impl<'a> Nodes<'a> {
+    ghost use Rattle.std.specs.Prelude.{min};
+    ghost use Rattle.nodes.specs.Meaning.{places_of, most_of, nodes_of, labels_of, Kept, Pushed};
+
     /// An empty list of up to `most` nodes, and no more than there are places.
     pub fn new(places: &'a mut [NodePlace], most: usize) -> Nodes<'a>
-        ensures stands { Stands result [] [] }
+        ensures nodes { nodes_of result ≡ [] }
+        ensures labels { labels_of result ≡ [] }
         ensures most { most_of result ≡ min most (length places.old) }
         ensures length { length (places_of result) ≡ length places.old }
         ensures named { result.places.ghost_name ≡ places.entry.ghost_name }
     {
+        let most = most.min(places.len());
         Nodes {
             places,
             most,
@@ -166,10 +177,9 @@ impl<'a> Nodes<'a> {
 
     /// Empties the list.
     pub fn start(&mut self)
-        ensures stands { Stands self.new [] [] }
-        ensures most { most_of self.new ≡ most_of self.old }
-        ensures length { length (places_of self.new) ≡ length (places_of self.old) }
-        ensures named { self.new.places.ghost_name ≡ self.old.places.ghost_name }
+        ensures nodes { nodes_of self.new ≡ [] }
+        ensures labels { labels_of self.new ≡ [] }
+        ensures kept { Kept self.old self.new }
     {
         self.len = 0;
     }
@@ -178,52 +188,50 @@ impl<'a> Nodes<'a> {
     pub fn most(&self) -> usize
         ensures { result ≡ most_of self.now }
     {
-        self.most.min(self.places.len())
+        self.most
+    }
+
+    // The places in use.
+    fn listed(&self) -> &[NodePlace]
+        ensures { result.now ≡ take self.now.len (places_of self.now) }
+    {
+        &self.places[..self.len]
     }
 
     /// How many nodes the list has.
     pub fn count(&self) -> usize
-        ensures means { (ns : List NodeOf) (ls : List (Maybe ℕ)) → Stands self.now ns ls → result ≡ length ns }
+        ensures means { result ≡ length (nodes_of self.now) }
         ensures within { result ≤ length (places_of self.now) }
     {
-        self.len.min(self.places.len())
+        self.listed().len()
     }
 
     /// The node of a number, or none where it is not in the list.
     pub fn node(&self, number: NodeNumber) -> Option<Node>
-        ensures { (ns : List NodeOf) (ls : List (Maybe ℕ)) → Stands self.now ns ls → option_map node_of result ≡ slice_get ns number.0 }
+        ensures { option_map node_of result ≡ slice_get (nodes_of self.now) number.0 }
     {
-        let places = &*self.places;
-        if number.0 < self.count() {
-            Some(places[number.0].node)
-        } else {
-            None
-        }
+        self.listed().get(number.0).map(|place| place.node)
     }
 
     /// The label of a node, or none where it has none or is not in the list.
     pub fn label(&self, number: NodeNumber) -> Option<Label>
-        ensures { (ns : List NodeOf) (ls : List (Maybe ℕ)) → Stands self.now ns ls → label_of result ≡ at ls number.0 }
+        ensures { label_of result ≡ at (labels_of self.now) number.0 }
     {
-        let places = &*self.places;
-        if number.0 < self.count() {
-            places[number.0].label
-        } else {
-            None
-        }
+        self.listed().get(number.0).and_then(|place| place.label)
     }
 
     // Whether a node may become a kid: it is in the list, and no kid yet.
     fn is_free(&self, number: NodeNumber) -> bool
-        ensures { (ns : List NodeOf) (ls : List (Maybe ℕ)) → Stands self.now ns ls → result ≡ free ns number.0 }
+        ensures { result ≡ free (nodes_of self.now) number.0 }
     {
-        let places = &*self.places;
-        number.0 < self.count() && !places[number.0].is_kid
+        self.listed()
+            .get(number.0)
+            .is_some_and(|place| !place.is_kid)
     }
 
     // Whether each kid is free, and none is given twice.
     fn are_free(&self, top: &Applied<NodeNumber>) -> bool
-        ensures { (ns : List NodeOf) (ls : List (Maybe ℕ)) → Stands self.now ns ls → result ≡ all_free ns (kid_list top.now) }
+        ensures { result ≡ all_free (nodes_of self.now) (kid_list top.now) }
     {
         match *top {
             Applied::Leaf(_) => true,
@@ -235,15 +243,14 @@ impl<'a> Nodes<'a> {
     }
 
     /// Whether a node may be entered, or the first reason why not.
+    #[tactic(auto, using(crate::proofs::Right::checks_are_right))]
     pub fn check(&self, operators: &[Operator], node: &Node) -> Result<(), NodeRefusal>
-        ensures answer { (ns : List NodeOf) (ls : List (Maybe ℕ)) → Stands self.now ns ls → result ≡ check_answer (check_node (map operator_of operators.now) (most_of self.now) ns (node_of node.now)) }
+        ensures answer { result ≡ check_answer (check_node (map operator_of operators.now) (most_of self.now) (nodes_of self.now) (node_of node.now)) }
         ensures right { ChecksAreRight }
     {
-        let operator = node.top.operator().0;
-        if operator >= operators.len() {
-            return Err(NodeRefusal::Operator);
-        }
-        if operators[operator].kids != count_of(&node.top) {
+        let number = node.top.operator().0;
+        let operator = operators.get(number).ok_or(NodeRefusal::Operator)?;
+        if operator.kids != count_of(&node.top) {
             return Err(NodeRefusal::Kids);
         }
         if !self.are_free(&node.top) {
@@ -258,16 +265,11 @@ impl<'a> Nodes<'a> {
     /// Appends a node with its label, and answers its number. None, and nothing is changed, where the list is full or a kid's
     /// number is not below the new node's.
     pub fn push(&mut self, node: Node, label: Option<Label>) -> Option<NodeNumber>
-        ensures pushed { (ns : List NodeOf) (ls : List (Maybe ℕ)) → Stands self.old ns ls → Pushed self.old ns ls (node_of node) (label_of label) result self.new }
-        ensures most { most_of self.new ≡ most_of self.old }
-        ensures length { length (places_of self.new) ≡ length (places_of self.old) }
-        ensures named { self.new.places.ghost_name ≡ self.old.places.ghost_name }
+        ensures pushed { Pushed self.old (node_of node) (label_of label) result self.new }
+        ensures kept { Kept self.old self.new }
     {
         let place = self.len;
-        if place >= self.most() {
-            return None;
-        }
-        if !all_below(&node.top, place) {
+        if place >= self.most || !all_below(&node.top, place) {
             return None;
         }
         store(self.places, place, node, label);
