@@ -16,7 +16,7 @@ pub(crate) fn forget<C: Cost>(work: &mut [Option<Work<C>>])
     work.fill(None);
 }
 
-impl<'a, K: KidRow> Step<'a, K> {
+impl<'r, 'k, K: KidRow> Step<'r, 'k, K> {
     // Of each nonterminal's base rules the first that attains the least cost is kept.
     pub(crate) fn take_bases(&self, work: &mut [Option<Work<K::Cost>>])
         ensures { map kept_of work.new ≡ pass K.Cost.Cost.model (base_gives K.Cost.Cost.model (applied K.KidRow.costs self.now.kids)) (map kept_of work.old) 1 (map rule_of self.now.rules.now) }

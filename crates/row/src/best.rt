@@ -8,7 +8,7 @@ use crate::kids::{KidRow, Step};
 use crate::least::lower_to_least;
 use crate::work::Work;
 
-impl<'a, K: KidRow> Step<'a, K> {
+impl<'r, 'k, K: KidRow> Step<'r, 'k, K> {
     // For each nonterminal the least cost, the fewest chain rules and the rule chosen, into a work place for each nonterminal.
     pub fn best_into(&self, work: &mut [Option<Work<K::Cost>>])
         ensures { BestAre K.Cost.Cost.model (map rule_of self.now.rules.now) (length work.old) (applied K.KidRow.costs self.now.kids) (map kept_of work.new) }

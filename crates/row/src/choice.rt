@@ -18,7 +18,7 @@ fn is_rank_of<C: Cost>(rank: Option<(C, usize)>, best: &Work<C>) -> bool
     rank.is_some_and(|x| compare_ranks(x, best.rank()).is_eq())
 }
 
-impl<'a, K: KidRow> Step<'a, K> {
+impl<'r, 'k, K: KidRow> Step<'r, 'k, K> {
     // What a rule gives: as a base rule, or else as a chain rule.
     fn rule_rank(
         &self,

@@ -21,9 +21,9 @@ pub trait KidRow {
 
 // What a node's row is worked out from: the rules, and the node's operator with the rows of its kids.
 #[derive(Drop)]
-pub struct Step<'a, K: KidRow> {
-    pub rules: &'a [Rule<K::Cost>],
-    pub kids: Applied<&'a K>,
+pub struct Step<'r, 'k, K: KidRow> {
+    pub rules: &'r [Rule<K::Cost>],
+    pub kids: Applied<&'k K>,
 }
 
 // A base rule of this cost over one kid.
@@ -48,7 +48,7 @@ fn over_two<K: KidRow>(
     Some(cost.sum(x).sum(y))
 }
 
-impl<'a, K: KidRow> Step<'a, K> {
+impl<'r, 'k, K: KidRow> Step<'r, 'k, K> {
     // What a rule costs over the kids' costs: none where it is no base rule of the operator, or a kid has no cost.
     pub(crate) fn base_cost(&self, rule: &Rule<K::Cost>) -> Option<K::Cost>
         ensures { no_chains result ≡ base_offer K.Cost.Cost.model (applied K.KidRow.costs self.now.kids) rule.now.cost (form_of rule.now.form) }

@@ -9,7 +9,7 @@ use crate::kids::{KidRow, Step};
 use crate::rounds::run_rounds;
 use crate::work::Work;
 
-impl<'a, K: KidRow> Step<'a, K> {
+impl<'r, 'k, K: KidRow> Step<'r, 'k, K> {
     // For each nonterminal the least cost and the fewest chain rules, into a work place for each nonterminal.
     pub fn ranks_into(&self, work: &mut [Option<Work<K::Cost>>])
         ensures { RanksAre K.Cost.Cost.model (map rule_of self.now.rules.now) (length work.old) (applied K.KidRow.costs self.now.kids) (map kept_of work.new) }
