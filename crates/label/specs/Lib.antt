@@ -1,4 +1,3 @@
 pub mod Refusals
 pub mod Views
 pub mod Meaning
-pub mod Kids

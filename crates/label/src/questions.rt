@@ -23,11 +23,7 @@ pub fn operator_numbered<C: Cost>(grammar: &Grammar<C>, number: OperatorNumber) 
     ensures { option_map operator_of result ≡ slice_get (grammar_lists grammar.now).operators number.0 }
 {
     let operators = grammar.declarations().operators();
-    if number.0 < operators.len() {
-        Some(operators[number.0])
-    } else {
-        None
-    }
+    operators.get(number.0).copied()
 }
 
 /// The rule of a number, or none where there is no such rule.
@@ -35,9 +31,6 @@ pub fn rule_numbered<C: Cost>(grammar: &Grammar<C>, number: RuleNumber) -> Optio
     ensures { option_map rule_of result ≡ rule_of_number (grammar_lists grammar.now) number.0 }
 {
     let rules = grammar.declarations().rules();
-    if number.0 > 0 && number.0 <= rules.len() {
-        Some(rules[number.0 - 1])
-    } else {
-        None
-    }
+    let place = number.0.checked_sub(1)?;
+    rules.get(place).copied()
 }

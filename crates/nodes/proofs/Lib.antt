@@ -1,5 +1,3 @@
-pub mod Reading
-mod Checked
 pub mod Among
 pub mod Right
 mod Marking

@@ -4,7 +4,7 @@ use Rattle.std.proofs.lemmas.List.{get_or-map, get_or-set_same, get_or-set_other
 use Rattle.std.proofs.lemmas.Bool.{cases_eq, eq-eqb, ne_eqb}
 use Rattle.nodes.specs.declared.NodePlace.{NodePlace}
 use Rattle.nodes.specs.Checks.{among}
-use Rattle.nodes.specs.Meaning.{Marked}
+use Rattle.nodes.specs.Places.{Marked}
 use Rattle.nodes.specs.Views.{node_of, label_of}
 
 -- a write that f does not see

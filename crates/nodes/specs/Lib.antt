@@ -1,5 +1,5 @@
 pub mod Views
 pub mod Checks
+pub mod Places
 pub mod Meaning
 pub mod Theorems
-pub mod Kids

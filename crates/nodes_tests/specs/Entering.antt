@@ -7,7 +7,7 @@ use Rattle.nodes.specs.declared.NodeNumber.{NodeNumber}
 use Rattle.nodes.specs.declared.NodeRefusal.{NodeRefusal}
 use Rattle.nodes.specs.declared.Nodes.{Nodes}
 use Rattle.nodes.specs.Checks.{check_node}
-use Rattle.nodes.specs.Meaning.{Stands, most_of}
+use Rattle.nodes.specs.Meaning.{most_of, nodes_of, labels_of}
 
 -- the answer to a node that is refused, or is not
 abbrev pub enter_answer : Option NodeRefusal → ℕ → Result ℕ NodeRefusal
@@ -19,8 +19,9 @@ abbrev pub entered : {A : Type 0} → Option NodeRefusal → List A → A → Li
 entered None xs x = xs ++ x ∷ []
 entered (Some e) xs x = xs
 
--- From the list v, which means ns and ls, the list u once x is entered with the label l, and the answer.
-pub record Enters (ops : List OperatorOf) (v : Nodes) (ns : List Node) (ls : List (Option ℕ)) (x : Node) (l : Option ℕ) (r : Result NodeNumber NodeRefusal) (u : Nodes) : Type 0 where
-  pub answer : map_ok (λ (n : NodeNumber). n.0) r ≡ enter_answer (check_node ops (most_of v) ns x) (length ns)
-  pub stands : Stands u (entered (check_node ops (most_of v) ns x) ns x) (entered (check_node ops (most_of v) ns x) ls l)
-  pub listed : Listed ops (entered (check_node ops (most_of v) ns x) ns x)
+-- From the list v, the list u once x is entered with the label l, and the answer.
+pub record Enters (ops : List OperatorOf) (v : Nodes) (x : Node) (l : Option ℕ) (r : Result NodeNumber NodeRefusal) (u : Nodes) : Type 0 where
+  pub answer : map_ok (λ (n : NodeNumber). n.0) r ≡ enter_answer (check_node ops (most_of v) (nodes_of v) x) (length (nodes_of v))
+  pub nodes : nodes_of u ≡ entered (check_node ops (most_of v) (nodes_of v) x) (nodes_of v) x
+  pub labels : labels_of u ≡ entered (check_node ops (most_of v) (nodes_of v) x) (labels_of v) l
+  pub listed : Listed ops (nodes_of u)

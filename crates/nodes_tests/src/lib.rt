@@ -2,15 +2,16 @@
 
 #![tactic(auto)]
 
-ghost use Rattle.std.specs.Prelude.{◌≡◌, ℕ, List, [], map, Option as Maybe};
+ghost use Rattle.std.specs.Prelude.{◌≡◌, [], map};
 ghost use Rattle.grammar.specs.Views.{operator_of};
-ghost use Rattle.covers.specs.Nodes.{Node as NodeOf, Listed};
-ghost use Rattle.nodes.specs.Meaning.{Stands};
+ghost use Rattle.covers.specs.Nodes.{Listed};
+ghost use Rattle.nodes.specs.Meaning.{nodes_of, labels_of};
 ghost use Rattle.nodes.specs.Views.{node_of, label_of};
 ghost use Rattle.nodes_tests.specs.Entering.{Enters};
 
+use applied::Applied;
 use grammar::parts::{Operator, OperatorNumber};
-use nodes::{Label, Node, NodeKids, NodeNumber, NodePlace, NodeRefusal, Nodes};
+use nodes::{Label, Node, NodeNumber, NodePlace, NodeRefusal, Nodes};
 
 /// A list of nodes by value, with a count of the nodes refused.
 #[derive(Drop)]
@@ -21,7 +22,8 @@ pub struct Holder<'a> {
 
 impl<'a> Holder<'a> {
     pub fn new(places: &'a mut [NodePlace], most: usize) -> Holder<'a>
-        ensures { Stands result.nodes [] [] }
+        ensures nodes { nodes_of result.nodes ≡ [] }
+        ensures labels { labels_of result.nodes ≡ [] }
     {
         Holder {
             nodes: Nodes::new(places, most),
@@ -36,7 +38,7 @@ impl<'a> Holder<'a> {
         node: Node,
         label: Option<Label>,
     ) -> Result<NodeNumber, NodeRefusal>
-        ensures { (ns : List NodeOf) (ls : List (Maybe ℕ)) → Stands self.old.nodes ns ls → Listed (map operator_of operators.now) ns → Enters (map operator_of operators.now) self.old.nodes ns ls (node_of node) (label_of label) result self.new.nodes }
+        ensures { Listed (map operator_of operators.now) (nodes_of self.old.nodes) → Enters (map operator_of operators.now) self.old.nodes (node_of node) (label_of label) result self.new.nodes }
     {
         if let Err(refusal) = self.nodes.check(operators, &node) {
             self.refused = self.refused.saturating_add(1);
@@ -50,14 +52,13 @@ impl<'a> Holder<'a> {
 pub fn first_number(places: &mut [NodePlace], operator: OperatorNumber) -> usize
     ensures { result ≡ 0 }
 {
-    if places.len() == 0 {
+    if places.is_empty() {
         return 0;
     }
     let mut nodes = Nodes::new(places, 1);
     let node = Node {
-        operator,
+        top: Applied::Leaf(operator),
         payload: 0,
-        kids: NodeKids::None,
     };
     match nodes.push(node, None) {
         Some(number) => number.0,
@@ -73,17 +74,15 @@ mod tests {
 
     fn leaf(operator: usize) -> Node {
         Node {
-            operator: OperatorNumber(operator),
+            top: Applied::Leaf(OperatorNumber(operator)),
             payload: 7,
-            kids: NodeKids::None,
         }
     }
 
     fn sum(left: usize, right: usize) -> Node {
         Node {
-            operator: OperatorNumber(1),
+            top: Applied::Binary(OperatorNumber(1), NodeNumber(left), NodeNumber(right)),
             payload: 0,
-            kids: NodeKids::Two(NodeNumber(left), NodeNumber(right)),
         }
     }
 

@@ -14,13 +14,10 @@ use Rattle.covers.proofs.NodeTrees.{mapped_some, zipped_some, length_more, subtr
 use Rattle.covers.proofs.Nths.{at_more, at_last}
 use Rattle.covers.proofs.Relaxing.{some_is}
 use Rattle.nodes.specs.declared.Node.{Node as CodeNode}
-use Rattle.nodes.specs.declared.NodeKids.{NodeKids}
-use Rattle.nodes.specs.declared.NodeKids.TheVariants.{None as NoKids, One, Two}
 use Rattle.nodes.specs.declared.Nodes.{Nodes}
 use Rattle.nodes.specs.Checks.{check_node}
-use Rattle.nodes.specs.Meaning.{Stands, most_of}
-use Rattle.nodes.specs.Views.{node_of, kid_list}
-use Rattle.nodes.proofs.Pushing.{kids_are}
+use Rattle.nodes.specs.Meaning.{most_of, nodes_of, labels_of}
+use Rattle.nodes.specs.Views.{node_of}
 use Rattle.nodes.proofs.Right.{checked_room, checked_below, checked_listed}
 use Rattle.row.specs.Views.{row_in}
 use Rattle.row.specs.declared.work.Work.{Work}
@@ -83,10 +80,10 @@ module _ {C : Type 0} {cost ord eq partial_ord : _} (m : Model C) (p : Plain C c
         let long = added.sizes in
         subst (λ z. a * z + z ≤ length ys) (sym keeps.width) (omega (arith, has_places room a h))
 
-    kids_kept : (ks : NodeKids) → Below (length ns) (kid_list ks) → KidsKept ys w ks
-    kids_kept NoKids b = tt
-    kids_kept (One a) b = kid_kept a.0 b.0
-    kids_kept (Two a c) b = (kid_kept a.0 b.0, kid_kept c.0 b.1.0)
+    kids_kept : (top : Applied ℕ) → Below (length ns) (kids top) → KidsKept ys w top
+    kids_kept (leaf op) b = tt
+    kids_kept (unary op a) b = kid_kept a b.0
+    kids_kept (binary op a c) b = (kid_kept a b.0, kid_kept c b.1.0)
 
     module _ (below : Below (length ns) (kids (node_of x).top)) where
       abbrev o : Option Tree
@@ -100,7 +97,7 @@ module _ {C : Type 0} {cost ord eq partial_ord : _} (m : Model C) (p : Plain C c
           let top = (node_of x).top in
           let wide : w ≡ n = keeps.width in
           let long = added.size in
-          added.over (kids_kept x.kids (subst (Below (length ns)) (kids_are x) below)) G keeps.sealed.declared refl (omega arith)
+          added.over (kids_kept top below) G keeps.sealed.declared refl (omega arith)
           ∙ ap (λ z. cost_row_from m G (rows_under ys z top)) wide
           ∙ ap (cost_row_from m G) (rows_are top (node_of x).payload t below e)
           ∙ sym (cost_rows m G t)
@@ -123,10 +120,10 @@ module _ {C : Type 0} {cost ord eq partial_ord : _} (m : Model C) (p : Plain C c
 
   -- the labeller with a node that passed the checks
   pub keeps_more : (v : Nodes) (r : RowPlaces C) (x : CodeNode) (u : ℕ) → check_node G.operators (most_nodes p) ns (node_of x) ≡ None → u ≡ length ns
-      → most_of v ≡ most_nodes p → Stands v (ns ++ node_of x ∷ []) (no_labels ns ++ None ∷ [])
+      → most_of v ≡ most_nodes p → nodes_of v ≡ ns ++ node_of x ∷ [] → labels_of v ≡ no_labels ns ++ None ∷ []
       → RowAdded m G.rules u x (newest_in p) (earlier_in p) r.newest.now r.earlier.now
       → Keeps m (record { grammar = p.grammar; nodes = v; rows = r }) (ns ++ node_of x ∷ [])
-  keeps_more v r x u passed number most stands added =
+  keeps_more v r x u passed number most nodes labels added =
       let room = checked_room G.operators (most_nodes p) ns (node_of x) passed in
       let below = checked_below G.operators (most_nodes p) ns (node_of x) passed in
       let few = keeps.few in
@@ -135,7 +132,8 @@ module _ {C : Type 0} {cost ord eq partial_ord : _} (m : Model C) (p : Plain C c
       record {
         sealed = keeps.sealed;
         few = omega arith;
-        stands = subst (Stands v (ns ++ node_of x ∷ [])) (sym (map_push (λ (_ : Node). None) ns (node_of x))) stands;
+        nodes = nodes;
+        labels = labels ∙ sym (map_push (λ (_ : Node). None) ns (node_of x));
         listed = checked_listed G.operators (most_nodes p) ns (node_of x) keeps.listed passed;
         width = size ∙ keeps.width;
         places = subst (λ z. z * n ≤ length r.newest.now + length r.earlier.now) (sym most) (omega (arith, keeps.places));

@@ -1,12 +1,13 @@
 -- A plain labeller as a labeller.
 use Rattle.std.proofs.Common.{◌≡◌, ℕ, zero, suc, List, [], ◌∷◌, ◌++◌, length, Some, None, Option, Result, sym, refl, ap, ◌∙◌, subst, arith}
-use Rattle.std.proofs.lemmas.List.{map_push}
+use Rattle.std.proofs.lemmas.List.{map_push, length-map}
 use Rattle.cost.specs.Model.{Model}
 use Rattle.grammar.specs.Lists.{Lists, Sealed}
 use Rattle.covers.specs.Nodes.{Node, Listed}
 use Rattle.covers.specs.Ranks.{at}
 use Rattle.nodes.specs.declared.NodeRefusal.{NodeRefusal}
 use Rattle.nodes.specs.Checks.{check_node}
+use Rattle.nodes.proofs.Pushing.{nodes_count}
 use Rattle.label.specs.Meaning.{Meaning, Sound, Started, Cleared, Appended, Adds, AddsBy, by_room, refusal}
 use Rattle.label.specs.declared.refusals.AddRefusal.{AddRefusal}
 use Rattle.plain.specs.declared.Plain.{Plain}
@@ -21,8 +22,8 @@ module _ {C : Type 0} {cost ord eq partial_ord : _} (m : Model C) (p : Plain C c
         sealed = subst (Sealed m) (sym means.grammar) k.sealed;
         few = omega (arith, k.few);
         listed = subst (λ (z : Lists C). Listed z.operators μ.nodes) (sym means.grammar) k.listed;
-        within = omega (arith, k.stands.few);
-        labelled = ap length means.labels ∙ k.stands.labelled;
+        within = (let few = p.nodes.few in omega (arith, nodes_count p.nodes, ap length k.nodes));
+        labelled = ap length means.labels ∙ length-map μ.nodes (λ _. None);
       }
 
   -- without nodes

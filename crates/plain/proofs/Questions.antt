@@ -7,6 +7,7 @@ use Rattle.covers.specs.Ranks.{best}
 use Rattle.covers.specs.Rows.{cost_row}
 use Rattle.covers.specs.Trees.{Tree, count}
 use Rattle.covers.proofs.NodeTrees.{subtree_each, subtrees_length}
+use Rattle.nodes.proofs.Pushing.{nodes_count}
 use Rattle.label.specs.Meaning.{choice_of}
 use Rattle.row.specs.Views.{row_in}
 use Rattle.plain.specs.declared.Plain.{Plain}
@@ -18,6 +19,10 @@ use Rattle.plain.proofs.Moving.{ends_before}
 module _ {C : Type 0} {cost ord eq partial_ord : _} (m : Model C) (p : Plain C cost ord eq partial_ord) (ns : List Node) (keeps : Keeps m p ns) (i n : ℕ) where
   pub choice_not : length ns ≤ i → None ≡ choice_of m (grammar_of p) (subtree ns i) n
   choice_not h = sym (ap (λ z. choice_of m (grammar_of p) z n) (get_or_past (subtrees_after [] ns) i None (omega (arith, subtrees_length ns []))))
+
+  -- there are no more nodes than there may be
+  nodes_few : length ns ≤ most_nodes p
+  nodes_few = (let few = p.nodes.few in omega (arith, nodes_count p.nodes, ap length keeps.nodes))
 
   choice_here : (r : Option ℕ) → i < length ns → ((t : Tree) → subtree ns i ≡ Some t → r ≡ rule_in (cost_row m (grammar_of p) t) n) → r ≡ choice_of m (grammar_of p) (subtree ns i) n
   choice_here r h f =
@@ -34,7 +39,7 @@ module _ {C : Type 0} {cost ord eq partial_ord : _} (m : Model C) (p : Plain C c
       let same : w ≡ N = wide ∙ keeps.width in
       let all = keeps.places in
       let width = keeps.width in
-      let few = keeps.stands.few in
+      let few = nodes_few in
       let room : i + 1 < most_nodes p = omega arith in
       let two : i * N + N + N ≤ most_nodes p * N = omega (arith, ends_before N i (i + 1) (omega arith), ends_before N (i + 1) (most_nodes p) room) in
       let fits : i * N + N ≤ length (earlier_in p) = omega arith in

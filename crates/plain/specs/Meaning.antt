@@ -6,7 +6,7 @@ use Rattle.grammar.specs.Meaning.{grammar_lists}
 use Rattle.covers.specs.Trees.{Tree, count}
 use Rattle.covers.specs.Rows.{cost_row}
 use Rattle.covers.specs.Nodes.{Node, Listed, subtree}
-use Rattle.nodes.specs.Meaning.{Stands, most_of}
+use Rattle.nodes.specs.Meaning.{most_of, nodes_of, labels_of}
 use Rattle.nodes.specs.declared.NodeRefusal.{NodeRefusal}
 use Rattle.row.specs.Views.{row_in}
 use Rattle.row.specs.declared.work.Work.{Work}
@@ -40,7 +40,8 @@ no_labels ns = map (λ _. None) ns
 pub record Keeps {C : Type 0} {cost ord eq partial_ord : _} (m : Model C) (p : Plain C cost ord eq partial_ord) (ns : List Node) : Type 0 where
   pub sealed : Sealed m (grammar_of p)
   pub few : most_nodes p ≤ 2048
-  pub stands : Stands p.nodes ns (no_labels ns)
+  pub nodes : nodes_of p.nodes ≡ ns
+  pub labels : labels_of p.nodes ≡ no_labels ns
   pub listed : Listed (grammar_of p).operators ns
   pub width : length (newest_in p) ≡ count (grammar_of p)
   pub places : most_nodes p * count (grammar_of p) ≤ length (newest_in p) + length (earlier_in p)

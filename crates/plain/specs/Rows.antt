@@ -6,10 +6,8 @@ use Rattle.grammar.specs.Lists.{RuleOf, Lists, Declared}
 use Rattle.covers.specs.Trees.{Applied, leaf, unary, binary, count}
 use Rattle.covers.specs.Ranks.{at}
 use Rattle.covers.specs.Rows.{Row, cost_row_from}
-use Rattle.nodes.specs.Views.{top_of}
 use Rattle.nodes.specs.declared.Node.{Node as CodeNode}
-use Rattle.nodes.specs.declared.NodeKids.{NodeKids}
-use Rattle.nodes.specs.declared.NodeKids.TheVariants.{None as NoKids, One, Two}
+use Rattle.nodes.specs.Views.{node_of}
 use Rattle.row.specs.Views.{row_in}
 use Rattle.row.specs.declared.work.Work.{Work}
 
@@ -24,10 +22,10 @@ rows_under places n (unary op a) = unary op (row_at places n a)
 rows_under places n (binary op a b) = binary op (row_at places n a) (row_at places n b)
 
 -- each kid's row has its places
-abbrev pub KidsKept : {C : Type 0} → List (Option (Work C)) → ℕ → NodeKids → Type 0
-KidsKept places n NoKids = Unit {0}
-KidsKept places n (One a) = a.0 * n + n ≤ length places
-KidsKept places n (Two a b) = (a.0 * n + n ≤ length places) × (b.0 * n + n ≤ length places)
+abbrev pub KidsKept : {C : Type 0} → List (Option (Work C)) → ℕ → Applied ℕ → Type 0
+KidsKept places n (leaf op) = Unit {0}
+KidsKept places n (unary op a) = a * n + n ≤ length places
+KidsKept places n (binary op a b) = (a * n + n ≤ length places) × (b * n + n ≤ length places)
 
 -- from the rules ρs, over as many nonterminals as there are places, they hold the row of an operator with its kids' rows
 abbrev pub RowOver : {C : Type 0} → Model C → List (RuleOf C) → Applied (Row C) → List (Option (Work C)) → Type 0
@@ -45,7 +43,7 @@ pub record RowAdded {C : Type 0} (m : Model C) (ρs : List (RuleOf C)) (k : ℕ)
   pub size : length newest' ≡ length newest
   pub sizes : length earlier' ≡ length earlier
   pub moved : RowMoved newest k earlier earlier'
-  pub over : KidsKept earlier' (length newest) x.kids → RowOver m ρs (rows_under earlier' (length newest) (top_of x.operator x.kids)) newest'
+  pub over : KidsKept earlier' (length newest) (node_of x).top → RowOver m ρs (rows_under earlier' (length newest) (node_of x).top) newest'
 
 -- the rule that a row has for nonterminal n
 abbrev pub rule_in : {C : Type 0} → Row C → ℕ → Option ℕ

@@ -1,8 +1,9 @@
 // The rows of nodes in row places, as many places for each node as there are nonterminals.
-ghost use Rattle.std.specs.Prelude.{◌≡◌, ◌+◌, ◌*◌, ◌≤◌, [], map, length, Some};
+ghost use Rattle.std.specs.Prelude.{◌≡◌, ◌+◌, ◌*◌, ◌<◌, ◌≤◌, [], map, length, Some};
+ghost use Rattle.std.specs.Option.{MatchOption};
 ghost use Rattle.grammar.specs.Views.{rule_of};
 ghost use Rattle.nodes.specs.declared.NodeNumber.{NodeNumber as NumberOf};
-ghost use Rattle.nodes.specs.Views.{top_of};
+ghost use Rattle.nodes.specs.Views.{node_of};
 ghost use Rattle.label.specs.Views.{rule_number};
 ghost use Rattle.row.specs.Views.{row_in, costs_of};
 ghost use Rattle.plain.specs.Rows.{row_at, rows_under, KidsKept, RowOver, RowMoved, RowAdded, rule_in};
@@ -11,7 +12,7 @@ use cost::Cost;
 use grammar::parts::{Rule, RuleNumber};
 use label::kids_over;
 use nodes::{Node, NodeNumber};
-use row::{KidRow, Work, best_into};
+use row::{KidRow, Step, Work};
 
 // The row of a node.
 #[derive(Drop)]
@@ -25,40 +26,30 @@ impl<'a, C: Cost> KidRow for KeptRow<'a, C> {
     ghost costs = { λ k. costs_of (row_in k.places.now) };
 
     fn cost_at(&self, n: usize) -> Option<C> {
-        if n >= self.places.len() {
-            return None;
-        }
-        let place = self.places[n];
-        match place {
-            Some(x) => Some(x.cost),
-            None => None,
-        }
+        let place = self.places.get(n).copied().flatten();
+        place.map(|best| best.cost)
     }
 }
 
-// The row of the node of a number, without entries where it is not there.
-fn kept_row<C: Cost>(rows: &[Option<Work<C>>], width: usize, node: NodeNumber) -> KeptRow<C>
-    ensures { node.0 * width + width ≤ length rows.now → row_in result.places.now ≡ row_at rows.now width node.0 }
+// Where the row places of a node begin, or none where they are not all there.
+fn start_of(places: usize, width: usize, node: usize) -> Option<usize>
+    ensures { MatchOption result (places < node * width + width) (λ start. (start ≡ node * width) × (start + width ≤ places)) }
 {
-    match node.0.checked_mul(width) {
-        Some(start) if start <= rows.len() && width <= rows.len() - start => KeptRow {
+    let start = node.checked_mul(width)?;
+    let end = start.checked_add(width)?;
+    (end <= places).then_some(start)
+}
+
+// The row of a node, without entries where there is no such node, or its row is not there.
+fn kept_row<C: Cost>(rows: &[Option<Work<C>>], width: usize, node: Option<NodeNumber>) -> KeptRow<C>
+    ensures { (k : NumberOf) → node ≡ Some k → k.0 * width + width ≤ length rows.now → row_in result.places.now ≡ row_at rows.now width k.0 }
+{
+    let start = node.and_then(|k| start_of(rows.len(), width, k.0));
+    match start {
+        Some(start) => KeptRow {
             places: &rows[start..start + width],
         },
-        _ => KeptRow { places: &rows[..0] },
-    }
-}
-
-// The row of a kid, without entries where there is no such kid.
-fn row_of_kid<C: Cost>(
-    rows: &[Option<Work<C>>],
-    width: usize,
-    kid: Option<NodeNumber>,
-) -> KeptRow<C>
-    ensures { (k : NumberOf) → kid ≡ Some k → k.0 * width + width ≤ length rows.now → row_in result.places.now ≡ row_at rows.now width k.0 }
-{
-    match kid {
-        Some(node) => kept_row(rows, width, node),
-        None => KeptRow { places: &rows[..0] },
+        None => KeptRow { places: &[] },
     }
 }
 
@@ -69,27 +60,21 @@ fn row_over<C: Cost>(
     node: &Node,
     row: &mut [Option<Work<C>>],
 )
-    ensures { KidsKept rows.now (length row.old) node.now.kids → RowOver C.Cost.model (map rule_of rules.now) (rows_under rows.now (length row.old) (top_of node.now.operator node.now.kids)) row.new }
+    ensures { KidsKept rows.now (length row.old) (node_of node.now).top → RowOver C.Cost.model (map rule_of rules.now) (rows_under rows.now (length row.old) (node_of node.now).top) row.new }
 {
-    let first = row_of_kid(rows, row.len(), node.kids.first());
-    let second = row_of_kid(rows, row.len(), node.kids.second());
+    let first = kept_row(rows, row.len(), node.top.first());
+    let second = kept_row(rows, row.len(), node.top.second());
     let kids = kids_over(node, &first, &second);
-    best_into(rules, &kids, row);
+    Step { rules, kids }.best_into(row);
 }
 
 // Moves the row of the newest node, which is the one before `number`, to its place among the others.
 fn move_row<C: Copy>(newest: &[Option<Work<C>>], rows: &mut [Option<Work<C>>], number: usize)
     ensures { RowMoved newest.now number rows.old rows.new }
 {
-    if number == 0 {
-        return;
-    }
-    let (width, places) = (newest.len(), rows.len());
-    let start = match (number - 1).checked_mul(width) {
-        Some(start) => start,
-        None => return,
-    };
-    if start <= places && width <= places - start {
+    let width = newest.len();
+    let last = number.checked_sub(1);
+    if let Some(start) = last.and_then(|node| start_of(rows.len(), width, node)) {
         rows[start..start + width].copy_from_slice(newest);
     }
 }
@@ -98,14 +83,8 @@ fn move_row<C: Copy>(newest: &[Option<Work<C>>], rows: &mut [Option<Work<C>>], n
 pub(crate) fn rule_at<C: Copy>(places: &[Option<Work<C>>], n: usize) -> Option<RuleNumber>
     ensures { rule_number result ≡ rule_in (row_in places.now) n }
 {
-    if n >= places.len() {
-        return None;
-    }
-    let place = places[n];
-    match place {
-        Some(x) => Some(RuleNumber(x.rule)),
-        None => None,
-    }
+    let place = places.get(n).copied().flatten();
+    place.map(|best| RuleNumber(best.rule))
 }
 
 // The rule that the row of an earlier node has for a nonterminal.
@@ -117,7 +96,7 @@ pub(crate) fn kept_rule<C: Cost>(
 ) -> Option<RuleNumber>
     ensures { node.0 * width + width ≤ length rows.now → rule_number result ≡ rule_in (row_at rows.now width node.0) n }
 {
-    rule_at(kept_row(rows, width, node).places, n)
+    rule_at(kept_row(rows, width, Some(node)).places, n)
 }
 
 // The row places: those of the newest node, and those of the nodes before it.

@@ -1,7 +1,7 @@
 -- Without the rules' numbers, the work places hold the ranks as they are defined.
 use Rattle.std.proofs.Common.{◌≡◌, ℕ, zero, suc, pred, ◌+◌, ◌-◌, ◌*◌, ◌≤◌, Bool, true, false, cond, ◌⊎◌, List, [], ◌∷◌, map, length, set, replicate, Some, None, Option, sym, refl, ap, ◌∙◌, subst, inl, inr, arith}
 use Rattle.std.proofs.lemmas.List.{map-set, set-get_or}
-use Rattle.std.specs.Option.{option_map}
+use Rattle.std.specs.Option.{option_map, option_or}
 use Rattle.cost.specs.Model.{Model}
 use Rattle.grammar.specs.Lists.{FormOf, chain, base0, base1, base2, RuleOf}
 use Rattle.covers.specs.Trees.{Applied}
@@ -173,11 +173,15 @@ module _ {C : Type 0} (m : Model C) where
 
   -- ---- what any rule gives
 
-  chain_or_none : (s : Applied (Ranks C)) (rs : Ranks C) (c : C) (f : FormOf) → base_offer m s c f ≡ None → chain_offer m rs c f ≡ offer m s rs c f
-  chain_or_none s rs c (chain x) e = refl
-  chain_or_none s rs c (base0 o) e = sym e
-  chain_or_none s rs c (base1 o a) e = sym e
-  chain_or_none s rs c (base2 o a b) e = sym e
+  or_none : {A : Type 0} (o : Option A) → option_or o None ≡ o
+  or_none None = refl
+  or_none (Some x) = refl
 
-  pub chain_is_offer : (s : Applied (Ranks C)) (xs : List (Option (Best C))) (c : C) (f : FormOf) → base_offer m s c f ≡ None → Few (ranks_part xs) → over_source m xs c f ≡ offer m s (ranks_part xs) c f
-  chain_is_offer s xs c f e few = gives_is xs c f (few_bounded xs few) ∙ chain_or_none s (ranks_part xs) c f e
+  -- as a base rule, or else as a chain rule
+  pub either_is_offer : (s : Applied (Ranks C)) (xs : List (Option (Best C))) (c : C) (f : FormOf) → Few (ranks_part xs) → option_or (base_offer m s c f) (over_source m xs c f) ≡ offer m s (ranks_part xs) c f
+  either_is_offer (Rattle.covers.specs.Trees.leaf op) xs c (chain x) few = gives_is xs c (chain x) (few_bounded xs few)
+  either_is_offer (Rattle.covers.specs.Trees.unary op k) xs c (chain x) few = gives_is xs c (chain x) (few_bounded xs few)
+  either_is_offer (Rattle.covers.specs.Trees.binary op k j) xs c (chain x) few = gives_is xs c (chain x) (few_bounded xs few)
+  either_is_offer s xs c (base0 o) few = or_none (base_offer m s c (base0 o))
+  either_is_offer s xs c (base1 o a) few = or_none (base_offer m s c (base1 o a))
+  either_is_offer s xs c (base2 o a b) few = or_none (base_offer m s c (base2 o a b))

@@ -1,55 +1,39 @@
--- The least of the costs, and taking it off each, place by place.
-use Rattle.std.proofs.Common.{◌≡◌, ℕ, zero, suc, ◌+◌, ◌≤◌, List, [], ◌∷◌, map, length, drop, set, Some, None, Option, sym, refl, ap, ◌∙◌, arith}
+-- The least of the costs, and taking it off each.
+use Rattle.std.proofs.Common.{◌≡◌, List, [], ◌∷◌, ◌++◌, map, reverse, fold, Some, None, Option, refl, ap, ◌∙◌}
+use mathlib.Core.List.{reverse-cons}
+use Rattle.std.specs.Option.{option_map}
 use Rattle.cost.specs.Model.{Model}
-use Rattle.covers.specs.Ranks.{Best, at}
 use Rattle.covers.specs.Rows.{lesser, least_in, entry, cost_entry}
-use Rattle.covers.proofs.Relaxing.{none_some}
-use Rattle.row.specs.Kept.{lowered}
-use Rattle.row.proofs.Writing.{upto, upto_at, upto_set}
+use Rattle.row.specs.Views.{kept_of}
+use Rattle.row.specs.declared.work.Work.{Work}
 
 module _ {C : Type 0} (m : Model C) where
-  -- the least from place n on
-  abbrev pub least_from : List (Option (Best C)) → ℕ → Option C
-  least_from xs n = least_in m (drop n xs)
+  -- the lesser of the least so far and what a place costs
+  abbrev pub lesser_of : Option C → Option (Work C) → Option C
+  lesser_of least None = least
+  lesser_of least (Some w) = Some (lesser m w.cost least)
 
-  pub least_past : (xs : List (Option (Best C))) (n : ℕ) → length xs ≤ n → None ≡ least_from xs n
-  least_past [] zero h = refl
-  least_past [] (suc n) h = refl
-  least_past (x ∷ xs) zero h = absurd (omega arith)
-  least_past (x ∷ xs) (suc n) h = least_past xs n (omega arith)
+  fold_end : (o : Option C) (ws : List (Option (Work C))) (w : Option (Work C)) → fold lesser_of o (ws ++ w ∷ []) ≡ lesser_of (fold lesser_of o ws) w
+  fold_end o [] w = refl
+  fold_end o (v ∷ ws) w = fold_end (lesser_of o v) ws w
 
-  pub least_skips : (xs : List (Option (Best C))) (n : ℕ) → at xs n ≡ None → least_from xs (suc n) ≡ least_from xs n
-  least_skips [] zero e = refl
-  least_skips [] (suc n) e = refl
-  least_skips (x ∷ xs) zero e = sym (ap (λ o. least_in m (o ∷ xs)) e)
-  least_skips (x ∷ xs) (suc n) e = least_skips xs n e
+  place_first : (ws : List (Option (Work C))) (w : Option (Work C)) → lesser_of (least_in m (map kept_of ws)) w ≡ least_in m (map kept_of (w ∷ ws))
+  place_first ws None = refl
+  place_first ws (Some w) = refl
 
-  pub least_takes : (xs : List (Option (Best C))) (n : ℕ) (y : Best C) → at xs n ≡ Some y → Some (lesser m y.0 (least_from xs (suc n))) ≡ least_from xs n
-  least_takes [] n y e = absurd (none_some y e)
-  least_takes (x ∷ xs) zero y e = sym (ap (λ o. least_in m (o ∷ xs)) e)
-  least_takes (x ∷ xs) (suc n) y e = least_takes xs n y e
+  pub least_back : (ws : List (Option (Work C))) → fold lesser_of None (reverse ws) ≡ least_in m (map kept_of ws)
+  least_back [] = refl
+  least_back (w ∷ ws) = ap (fold lesser_of None) (reverse-cons w ws) ∙ fold_end None (reverse ws) w ∙ ap (λ o. lesser_of o w) (least_back ws) ∙ place_first ws w
 
   module _ (f : C) where
-    -- the first i places are lowered
-    abbrev pub lowered_to : List (Option (Best C)) → ℕ → List (Option (Best C))
-    lowered_to xs i = upto (λ _. lowered m f) 0 i xs
+    -- a place with its cost above f
+    abbrev pub lower_place : Option (Work C) → Option (Work C)
+    lower_place o = option_map (λ (w : Work C). record { cost = m.diff w.cost f; chains = w.chains; rule = w.rule }) o
 
-    pub lower_more : (xs ys : List (Option (Best C))) (i : ℕ) (o : Option (Best C)) → ys ≡ lowered_to xs i → o ≡ lowered m f (at ys i) → set ys i o ≡ lowered_to xs (i + 1)
-    lower_more xs ys i o e h =
-        let here : at ys i ≡ at xs i = ap (λ z. at z i) e ∙ upto_at (λ _. lowered m f) 0 i xs None in
-        let new : o ≡ lowered m f (at xs i) = h ∙ ap (lowered m f) here in
-        let after : suc i ≡ i + 1 = omega arith in
-        (λ j. set (e j) i (new j)) ∙ upto_set (λ _. lowered m f) 0 i xs None ∙ ap (lowered_to xs) after
+    lowered_entry : (o : Option (Work C)) → cost_entry (kept_of (lower_place o)) ≡ entry m f (kept_of o)
+    lowered_entry None = refl
+    lowered_entry (Some w) = refl
 
-    entry_is : (o : Option (Best C)) → cost_entry (lowered m f o) ≡ entry m f o
-    entry_is None = refl
-    entry_is (Some y) = refl
-
-    entries_are : (n i : ℕ) (xs : List (Option (Best C))) → length xs ≤ i → map cost_entry (upto (λ _. lowered m f) n i xs) ≡ map (entry m f) xs
-    entries_are n zero [] h = refl
-    entries_are n zero (x ∷ xs) h = absurd (omega arith)
-    entries_are n (suc i) [] h = refl
-    entries_are n (suc i) (x ∷ xs) h = λ j. entry_is x j ∷ entries_are (suc n) i xs (omega arith) j
-
-    pub lower_all : (xs ys : List (Option (Best C))) (i : ℕ) → length xs ≤ i → ys ≡ lowered_to xs i → map cost_entry ys ≡ map (entry m f) xs
-    lower_all xs ys i h e = ap (map cost_entry) e ∙ entries_are 0 i xs h
+    pub lower_all : (ws : List (Option (Work C))) → map cost_entry (map kept_of (map lower_place ws)) ≡ map (entry m f) (map kept_of ws)
+    lower_all [] = refl
+    lower_all (w ∷ ws) = λ i. lowered_entry w i ∷ lower_all ws i

@@ -1,11 +1,12 @@
 -- What the work places and the kids' rows stand for.
 use Rattle.std.specs.Prelude.{List, map, Option}
 use Rattle.std.specs.Option.{option_map}
-use Rattle.covers.specs.Trees.{Applied, leaf, unary, binary}
+use Rattle.covers.specs.Trees.{Applied as AppliedOf}
 use Rattle.covers.specs.Ranks.{Rank, Ranks, Best}
 use Rattle.covers.specs.Rows.{Row, cost_entry}
-use Rattle.row.specs.declared.kids.Kids.{Kids}
-use Rattle.row.specs.declared.kids.Kids.TheVariants.{Leaf, Unary, Binary}
+use denote.Ref.{Bor}
+use Rattle.applied.specs.Views.{applied_of}
+use Rattle.applied.specs.declared.Applied.{Applied}
 use Rattle.row.specs.declared.work.Work.{Work}
 
 -- a work place as cost, number of chain rules and rule
@@ -20,10 +21,8 @@ abbrev pub no_chains : {C : Type 0} → Option C → Option (Rank C)
 no_chains o = option_map (λ c. (c, 0)) o
 
 -- an operator with its kids' ranks
-abbrev pub applied : {C K : Type 0} → (K → List (Option C)) → Kids K → Applied (Ranks C)
-applied f (Leaf op) = leaf op
-applied f (Unary op a) = unary op (map no_chains (f a.now))
-applied f (Binary op a b) = binary op (map no_chains (f a.now)) (map no_chains (f b.now))
+abbrev pub applied : {C K : Type 0} → (K → List (Option C)) → Applied (Bor K) → AppliedOf (Ranks C)
+applied f s = applied_of (λ a. map no_chains (f a.now)) s
 
 -- the row in work places: the rule and the cost of each
 abbrev pub row_in : {C : Type 0} → List (Option (Work C)) → Row C

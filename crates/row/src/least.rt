@@ -1,10 +1,9 @@
 // The least of the costs, and the costs above it.
 ghost use Rattle.std.specs.Prelude.{◌≡◌, map};
 ghost use Rattle.covers.specs.Rows.{lesser, least_in, least_of_all, entry, row_of, cost_entry};
-ghost use Rattle.row.specs.Kept.{lowered};
 ghost use Rattle.row.specs.Views.{kept_of};
 
-use crate::work::{Work, place};
+use crate::work::Work;
 use cost::Cost;
 
 // The lesser of a cost and another one, where there is another.
@@ -12,8 +11,8 @@ fn lesser_cost<C: Cost>(cost: C, other: Option<C>) -> C
     ensures { result ≡ lesser C.Cost.model cost other }
 {
     match other {
-        None => cost,
-        Some(x) => if x.compare(&cost).is_lt() { x } else { cost },
+        Some(x) if x.compare(&cost).is_lt() => x,
+        _ => cost,
     }
 }
 
@@ -21,45 +20,27 @@ fn lesser_cost<C: Cost>(cost: C, other: Option<C>) -> C
 fn least_cost<C: Cost>(work: &[Option<Work<C>>]) -> Option<C>
     ensures { result ≡ least_in C.Cost.model (map kept_of work.now) }
 {
-    let mut least = None;
-    for n in (0..work.len()).rev() {
-        if let Some(x) = place(work, n) {
-            least = Some(lesser_cost(x.cost, least));
-        }
-    }
-    least
+    work.iter().rev().fold(None, |least, place| {
+        place.map_or(least, |best| Some(lesser_cost(best.cost, least)))
+    })
 }
 
 // The same, and zero where all are empty.
 fn least_or_zero<C: Cost>(work: &[Option<Work<C>>]) -> C
     ensures { result ≡ least_of_all C.Cost.model (map kept_of work.now) }
 {
-    match least_cost(work) {
-        None => C::zero(),
-        Some(x) => x,
-    }
-}
-
-// A work place with its cost above the least.
-fn above<C: Cost>(best: Option<Work<C>>, least: C) -> Option<Work<C>>
-    ensures { kept_of result ≡ lowered C.Cost.model least (kept_of best) }
-{
-    match best {
-        None => None,
-        Some(x) => Some(Work {
-            cost: x.cost.diff(least),
-            chains: x.chains,
-            rule: x.rule,
-        }),
-    }
+    least_cost(work).unwrap_or(C::zero())
 }
 
 // The least is taken off each cost.
 fn lower_by<C: Cost>(work: &mut [Option<Work<C>>], least: C)
     ensures { map cost_entry (map kept_of work.new) ≡ map (entry C.Cost.model least) (map kept_of work.old) }
 {
-    for n in 0..work.len() {
-        work[n] = above(place(work, n), least);
+    for place in work.iter_mut() {
+        *place = place.map(|best| Work {
+            cost: best.cost.diff(least),
+            ..best
+        });
     }
 }
 

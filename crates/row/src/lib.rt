@@ -11,8 +11,6 @@ mod ranks;
 mod rounds;
 mod work;
 
-pub use best::{best_into, row_into};
-pub use kids::{KidRow, Kids};
+pub use kids::{KidRow, Step};
 pub use least::lower_to_least;
-pub use ranks::ranks_into;
 pub use work::Work;

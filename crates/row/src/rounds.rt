@@ -13,10 +13,10 @@ pub(crate) fn chain_rank<C: Cost>(rule: &Rule<C>, work: &[Option<Work<C>>]) -> O
     ensures { result ≡ over_source C.Cost.model (map kept_of work.now) rule.now.cost (form_of rule.now.form) }
 {
     match rule.form {
-        Form::Chain { source } => match place(work, source.0) {
-            Some(x) => Some((x.cost.sum(rule.cost), x.chains.saturating_add(1))),
-            None => None,
-        },
+        Form::Chain { source } => place(work, source.0).map(|x| (
+            x.cost.sum(rule.cost),
+            x.chains.saturating_add(1),
+        )),
         _ => None,
     }
 }
@@ -29,17 +29,12 @@ pub(crate) fn round<C: Cost>(rules: &[Rule<C>], work: &mut [Option<Work<C>>]) ->
     let mut changed = false;
     for (i, rule) in rules.iter().enumerate() {
         if let Some(rank) = chain_rank(rule, work) {
-            if keep_better(
-                work,
-                rule.left.0,
-                Work {
-                    cost: rank.0,
-                    chains: rank.1,
-                    rule: i + 1,
-                },
-            ) {
-                changed = true;
-            }
+            let new = Work {
+                cost: rank.0,
+                chains: rank.1,
+                rule: i + 1,
+            };
+            changed |= keep_better(work, rule.left.0, new);
         }
     }
     changed

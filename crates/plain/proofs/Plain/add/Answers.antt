@@ -1,7 +1,6 @@
 use Rattle.std.proofs.Common.{refl, ap, ◌∙◌}
 use Rattle.std.proofs.lemmas.Result.{err_from_is_err_and}
 use Rattle.grammar.specs.Lists.{Lists}
-use Rattle.plain.specs.Meaning.{no_labels}
 use Rattle.plain.proofs.Answering.{adds_refused, never_full, adds_more}
 use Rattle.plain.proofs.Plain.add.Goals as goal
 
@@ -14,7 +13,7 @@ returns-in_err-check g c =
     record {
       adds = λ ns k.
           adds_refused m p ns k c.args.node _ ops c.in_err-check.field-0.0 c.from_residual.result e.0
-          (c.in_err-check.ensures.answer ns (no_labels ns) k.stands) e.1 e.2;
+          c.in_err-check.ensures.answer e.1 e.2;
       refused = λ ns k f h. refl;
       grammar = refl;
       most = refl;
@@ -27,13 +26,13 @@ returns-in_err-number g c =
     let ops = c.operators.ensures ∙ ap (λ (z : Lists g.row.C.Denot). z.operators) c.declarations-declarations.ensures.lists in
     record {
       adds = λ ns k.
-          absurd (never_full m p ns k c.args.node _ ops (c.in_ok-check.ensures.answer ns (no_labels ns) k.stands) c.push.new.self c.push.result
-          (c.push.ensures.pushed ns (no_labels ns) k.stands) c.in_err-number.field-0.0 c.in_err-number.ensures.value);
+          absurd (never_full m p ns k c.args.node _ ops c.in_ok-check.ensures.answer c.push.new.self c.push.result
+          c.push.ensures.pushed c.in_err-number.field-0.0 c.in_err-number.ensures.value);
       refused = λ ns k f h.
-          absurd (never_full m p ns k c.args.node _ ops (c.in_ok-check.ensures.answer ns (no_labels ns) k.stands) c.push.new.self c.push.result
-          (c.push.ensures.pushed ns (no_labels ns) k.stands) c.in_err-number.field-0.0 c.in_err-number.ensures.value);
+          absurd (never_full m p ns k c.args.node _ ops c.in_ok-check.ensures.answer c.push.new.self c.push.result
+          c.push.ensures.pushed c.in_err-number.field-0.0 c.in_err-number.ensures.value);
       grammar = refl;
-      most = c.push.ensures.most;
+      most = c.push.ensures.kept.most;
     }
 
 pub returns : goal.returns
@@ -45,10 +44,10 @@ returns g c =
     let rules = c.rules.ensures ∙ ap (λ (z : Lists g.row.C.Denot). z.rules) lists in
     record {
       adds = λ ns k.
-          adds_more m p ns k c.args.node _ ops (c.in_ok-check.ensures.answer ns (no_labels ns) k.stands) c.push.new.self c.push.result
-          (c.push.ensures.pushed ns (no_labels ns) k.stands) c.with_row-self.result _ c.replace-rows.result c.in_ok-number.number
-          c.in_ok-number.ensures.value c.push.ensures.most rules c.replace-rows.ensures.value c.with_row-self.ensures;
+          adds_more m p ns k c.args.node _ ops c.in_ok-check.ensures.answer c.push.new.self c.push.result
+          c.push.ensures.pushed c.with_row-self.result _ c.replace-rows.result c.in_ok-number.number
+          c.in_ok-number.ensures.value c.push.ensures.kept.most rules c.replace-rows.ensures.value c.with_row-self.ensures;
       refused = λ ns k f h. (cc);
       grammar = refl;
-      most = c.push.ensures.most;
+      most = c.push.ensures.kept.most;
     }

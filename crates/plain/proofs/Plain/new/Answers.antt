@@ -4,8 +4,7 @@ use Rattle.covers.specs.Trees.{count}
 use Rattle.grammar.specs.Lists.{Lists}
 use Rattle.grammar.specs.Meaning.{grammar_lists}
 use Rattle.grammar.specs.Views.{nonterminal_of}
-use Rattle.plain.proofs.Births.{birth_short, birth_fits, keeps_none}
-use Rattle.label.proofs.Reading.{lengths}
+use Rattle.plain.proofs.Births.{birth_short, birth_fits, keeps_none, lengths}
 use Rattle.plain.proofs.Plain.new.Goals.{then-nodes-most-via-then-nodes-most, then-nodes-most-via-else-nodes-most+then-rows-most}
 use Rattle.plain.proofs.Plain.new.Goals as goal
 
@@ -44,7 +43,7 @@ returns g c =
           (omega (arith, c.if-rows-most.false)),
       refl,
       most,
-      λ sealed. keeps_none g.C.Cost.model _ sealed (omega (arith, c.if-most-gt2048.false)) c.new.ensures.stands (c.split_at_mut-newest.ensures.front_len ∙ wide)
+      λ sealed. keeps_none g.C.Cost.model _ sealed (omega (arith, c.if-most-gt2048.false)) c.new.ensures.nodes c.new.ensures.labels (c.split_at_mut-newest.ensures.front_len ∙ wide)
           (subst (λ z. z * count (grammar_lists c.args.grammar.now) ≤ length c.split_at_mut-newest.result.0.now + length c.split_at_mut-newest.result.1.now) (sym most)
           (omega (arith, c.if-rows-most.false, c.split_at_mut-newest.ensures.front_len, c.split_at_mut-newest.ensures.back_len))),
     )

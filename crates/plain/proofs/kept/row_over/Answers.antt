@@ -10,11 +10,10 @@ returns g c k G d r e =
     let m = g.C.Cost.model in
     let rows = c.args.rows.now in
     let n = length c.args.row.now in
-    let node = c.args.node.now in
-    let first : RowOf rows n _ c.row_of_kid-first.result = λ a h. c.row_of_kid-first.ensures a (c.first.ensures ∙ h) in
-    let second : RowOf rows n _ c.row_of_kid-second.result = λ a h. c.row_of_kid-second.ensures a (c.second.ensures ∙ h) in
+    let first : RowOf rows n _ c.kept_row-first.result = λ a h. c.kept_row-first.ensures a (c.first.ensures ∙ h) in
+    let second : RowOf rows n _ c.kept_row-second.result = λ a h. c.kept_row-second.ensures a (c.second.ensures ∙ h) in
     ap (map cost_entry) (
     c.best_into.ensures G d r (omega arith)
     ∙ ap (λ z. best_of m G (applied (costs_in rows n) z)) c.kids_over-kids.ensures
-    ∙ ap (best_of m G) (rows_of_kids rows n node.operator node.kids _ _ first second k)
+    ∙ ap (best_of m G) (rows_of_kids rows n c.args.node.now.top _ _ first second k)
     )

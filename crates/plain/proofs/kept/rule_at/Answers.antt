@@ -1,21 +1,12 @@
-use Rattle.std.proofs.Common.{None, sym, ap, ◌∙◌}
-use Rattle.std.proofs.lemmas.List.{get_or_default, get_or_past}
+use Rattle.std.proofs.Common.{◌≡◌, sym, ap, ◌∙◌, rules}
+use Rattle.covers.specs.Ranks.{at}
+use Rattle.label.specs.Views.{rule_number}
 use Rattle.plain.proofs.RowRules.{rule_entry, at_rule}
 use Rattle.plain.proofs.kept.rule_at.Goals as goal
 
-pub returns-then-n-places : goal.returns-then-n-places
-returns-then-n-places g c =
+pub returns : goal.returns
+returns g c =
     let ws = c.args.places.now in
-    sym (at_rule ws c.args.n ∙ ap rule_entry (get_or_past ws c.args.n None c.if-n-places.true))
-
-pub returns-in-Some : goal.returns-in-Some
-returns-in-Some g c =
-    let ws = c.args.places.now in
-    let here = get_or_default ws c.args.n None c.index-places-n.result c.if-n-places.false ∙ sym c.index-places-n.is ∙ c.in-Some.is in
-    sym (at_rule ws c.args.n ∙ ap rule_entry here)
-
-pub returns-in-None : goal.returns-in-None
-returns-in-None g c =
-    let ws = c.args.places.now in
-    let here = get_or_default ws c.args.n None c.index-places-n.result c.if-n-places.false ∙ sym c.index-places-n.is ∙ c.in-None.is in
-    sym (at_rule ws c.args.n ∙ ap rule_entry here)
+    let place : c.flatten-place.result ≡ at ws c.args.n = search rules in
+    let rule : rule_number c.map.result ≡ rule_entry c.flatten-place.result = search rules in
+    rule ∙ ap rule_entry place ∙ sym (at_rule ws c.args.n)

@@ -1,18 +1,19 @@
-use Rattle.std.proofs.Common.{◌≤◌, map, length, ap, ◌∙◌, arith}
-use Rattle.std.proofs.lemmas.List.{map-set, length-map}
-use Rattle.row.specs.Kept.{lowered}
+use Rattle.std.proofs.Common.{◌≡◌, ◌<◌, map, length, ap, ◌∙◌, slice_set, rules, arith}
+use Rattle.std.proofs.lemmas.List.Edits.{map_over_more}
+use Rattle.std.proofs.lemmas.Grind.{common_steps}
+use Rattle.covers.specs.Rows.{cost_entry}
 use Rattle.row.specs.Views.{kept_of}
-use Rattle.row.proofs.Lowering.{lower_more, lower_all}
+use Rattle.row.proofs.Lowering.{lower_place, lower_all}
 use Rattle.row.proofs.least.lower_by.Goals as goal
 
-pub loop-n-preserved : goal.loop-n-preserved
-loop-n-preserved g c =
-    let m = g.C.Cost.model in
-    let o = c.above.result in
-    map-set kept_of c.loop-n.work c.loop-n.n o ∙ lower_more m c.args.least (map kept_of c.args.work.now) (map kept_of c.loop-n.work) c.loop-n.n (kept_of o) c.loop-n.invariant (c.above.ensures ∙ ap (lowered m c.args.least) c.place.ensures)
+pub loop-place-preserved : goal.loop-place-preserved
+loop-place-preserved g c =
+    let f = lower_place g.C.Cost.model c.args.least in
+    let within : c.loop-place.place-index < length c.args.work.now = omega arith in
+    let lowered : c.map.result ≡ f c.place-item.result = search rules in
+    ap (slice_set c.loop-place.work c.loop-place.place-index) lowered ∙ map_over_more f c.args.work.now c.loop-place.work c.loop-place.place-index c.place-item.result within c.loop-place.invariant c.place-item.is
 
 pub returns : goal.returns
 returns g c =
-    let long = length-map c.args.work.now kept_of in
-    let h : length (map kept_of c.args.work.now) ≤ c.loop-n.n = omega arith in
-    lower_all g.C.Cost.model c.args.least (map kept_of c.args.work.now) (map kept_of c.loop-n.work) c.loop-n.n h c.loop-n.invariant
+    let whole : c.loop-place.work ≡ map (lower_place g.C.Cost.model c.args.least) c.args.work.now = grind (arith, common_steps, c.loop-place.invariant) in
+    ap (λ ws. map cost_entry (map kept_of ws)) whole ∙ lower_all g.C.Cost.model c.args.least c.args.work.now

@@ -1,9 +1,10 @@
-use Rattle.std.proofs.Common.{◌≡◌, map, length, sym, ap, ◌∙◌, true≢false, arith}
+use Rattle.std.proofs.Common.{map, sym, ap, ◌∙◌}
+use Rattle.std.proofs.lemmas.Bool.{or_parts}
 use Rattle.row.specs.Kept.{chain_gives}
 use Rattle.row.specs.Views.{kept_of}
-use Rattle.row.proofs.Passing.{pass_takes, pass_skips, pass_all}
+use Rattle.row.proofs.Passing.{pass_takes, pass_skips}
 use Rattle.row.proofs.rounds.round.Goals as goal
-use Rattle.row.proofs.rounds.round.Goals.{in-Some+then-keep_better, in-Some+else-keep_better, in_default}
+use Rattle.row.proofs.rounds.round.Goals.{in-Some, in_default}
 
 pub loop-i-preserved : goal.loop-i-preserved
 loop-i-preserved g c =
@@ -16,16 +17,6 @@ loop-i-preserved g c =
     let k = c.index-rules-i.result in
     let k-is = c.index-rules-i.is in
     elim c.match-chain_rank.branch [
-      | in-Some+then-keep_better w ↦ (ap (map kept_of) w.work-is ∙ pass_takes m f xs ks i k was (map kept_of w.keep_better.new.work) w.in-Some.rank c.loop-i-test.true k-is c.loop-i.invariant.0 (sym c.chain_rank.ensures ∙ w.in-Some.is) w.keep_better.ensures.made, λ e. absurd (true≢false (sym w.changed-is ∙ e)))
-      | in-Some+else-keep_better w ↦ (ap (map kept_of) w.work-is ∙ pass_takes m f xs ks i k was (map kept_of w.keep_better.new.work) w.in-Some.rank c.loop-i-test.true k-is c.loop-i.invariant.0 (sym c.chain_rank.ensures ∙ w.in-Some.is) w.keep_better.ensures.made, λ e. w.work-is ∙ w.keep_better.ensures.told w.if-keep_better.false ∙ c.loop-i.invariant.1 (sym w.changed-is ∙ e))
+      | in-Some w ↦ (ap (map kept_of) w.work-is ∙ pass_takes m f xs ks i k was (map kept_of w.keep_better-changed.new.work) w.in-Some.rank c.loop-i-test.true k-is c.loop-i.invariant.0 (sym c.chain_rank.ensures ∙ w.in-Some.is) w.keep_better-changed.ensures.made, λ e. let parts = or_parts c.loop-i.changed w.keep_better-changed.result (sym w.changed-is ∙ e) in w.work-is ∙ w.keep_better-changed.ensures.told parts.1 ∙ c.loop-i.invariant.1 parts.0)
       | in_default w ↦ (ap (map kept_of) w.work-is ∙ pass_skips m f xs ks i k was c.loop-i-test.true k-is c.loop-i.invariant.0 (sym c.chain_rank.ensures ∙ w.in_default.is), λ e. w.work-is ∙ c.loop-i.invariant.1 (sym w.changed-is ∙ e))
     ]
-
-pub returns : goal.returns
-returns g c =
-    let m = g.C.Cost.model in
-    let e : c.loop-i.i ≡ length c.args.rules.now = omega arith in
-    record {
-      made = pass_all m (chain_gives m) (map kept_of c.args.work.now) (map kept_of c.loop-i.work) c.args.rules.now c.loop-i.i e c.loop-i.invariant.0;
-      told = c.loop-i.invariant.1;
-    }
