@@ -109,6 +109,7 @@ impl<C: Cost> Draft<C> {
         Ok(OperatorNumber(at))
     }
 
+    // Apart from `declare_operator`, which looks at the kids between the name and the limit.
     pub fn declare_nonterminal(&mut self, name: Name) -> Result<NonterminalNumber, DraftRefusal>
         ensures answer { map_ok (λ n. n.0) result ≡ map_ok (λ _. length (draft_lists self.old).nonterminals) (declare_nonterminal (draft_lists self.old) (text name)) }
         ensures after { draft_lists self.new ≡ lists_after (draft_lists self.old) (declare_nonterminal (draft_lists self.old) (text name)) }

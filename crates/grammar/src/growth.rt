@@ -23,6 +23,7 @@ impl<C: Copy> Declarations<C> {
         })
     }
 
+    // One call for each list: each requires what the invariant says of its own elements.
     pub(crate) fn push_operator(&mut self, operator: Operator)
         requires { (vec_len self.old.operators < 64) × (operator.kids ≤ 2) }
         ensures { declared_lists self.new ≡ with_operator (declared_lists self.old) (operator_of operator) }

@@ -30,6 +30,7 @@ pub enum DraftRefusal {
 }
 
 impl DraftRefusal {
+    // A match and no discriminants: variants that carry a part have none.
     pub fn number(&self) -> u8
         ensures { result ≡ draft_number self.now }
     {

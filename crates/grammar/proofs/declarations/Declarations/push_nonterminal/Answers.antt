@@ -1,12 +1,9 @@
-use Rattle.std.proofs.Common.{arith}
 use Rattle.std.proofs.lemmas.List.{map_push}
 use Rattle.grammar.proofs.Fitting.{fit_nonterminal}
 use Rattle.grammar.proofs.declarations.Declarations.push_nonterminal.Goals as goal
 
-pub invariant_of-self : goal.invariant_of-self
-invariant_of-self g c =
-    let fit = simp (← c.push_reserved.ensures.len) at (fit_nonterminal _ _ _ c.args.self.now.fit) in
-    record { few_operators = omega arith; few_nonterminals = omega arith; few_rules = omega arith; operator_room = omega arith; nonterminal_room = omega arith; rule_room = omega arith; kids = c.args.self.now.kids; fit = fit }
+pub invariant_of-self-clause-fit : goal.invariant_of-self-clause-fit
+invariant_of-self-clause-fit g c = simp (← c.push_reserved.ensures.len) at (fit_nonterminal _ _ _ c.args.self.now.fit)
 
 pub returns : goal.returns
 returns g c = simp (c.push_reserved.ensures.items, map_push)
