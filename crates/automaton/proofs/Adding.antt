@@ -6,15 +6,14 @@ use Rattle.grammar.specs.Lists.{Lists}
 use Rattle.grammar.specs.Meaning.{grammar_lists}
 use Rattle.covers.specs.Trees.{Tree, size}
 use Rattle.covers.specs.Ranks.{at}
-use Rattle.covers.specs.Nodes.{Node, Listed}
+use Rattle.covers.specs.Nodes.{Node, kids, Below, Listed}
 use Rattle.covers.specs.Held.{In, key, label}
 use Rattle.nodes.specs.declared.NodeNumber.{NodeNumber}
 use Rattle.nodes.specs.declared.NodeRefusal.{NodeRefusal}
 use Rattle.nodes.specs.declared.Nodes.{Nodes}
 use Rattle.nodes.specs.Checks.{check_node}
-use Rattle.nodes.specs.Meaning.{Pushed, Stands, most_of}
-use Rattle.nodes.specs.Views.{number_of}
-use Rattle.nodes.proofs.Pushing.{pushed_more}
+use Rattle.nodes.specs.Meaning.{Pushed, nodes_of, labels_of, most_of}
+use Rattle.nodes.proofs.Pushing.{Appended, pushed_more}
 use Rattle.nodes.proofs.Right.{checked_room, checked_below, checked_listed}
 use Rattle.label.specs.Meaning.{by_room}
 use Rattle.label.specs.declared.refusals.AddRefusal.{AddRefusal}
@@ -30,7 +29,7 @@ use Rattle.automaton.proofs.Living.{trees_more, new_tree_some, kid_stands, key_i
 
 -- a refused node leaves all as it was
 lived_refused : {C : Type 0} {cost ord eq partial_ord : _} (m : Model C) (a : Automaton C cost ord eq partial_ord) (h : History) (x : Node) → Lived m a h → Lived m a (refused x ∷ h)
-lived_refused m a h x l = record { few = l.few; stands = l.stands; listed = l.listed; opens = l.opens; knows = l.knows }
+lived_refused m a h x l = record { few = l.few; nodes = l.nodes; labels = l.labels; listed = l.listed; opens = l.opens; knows = l.knows }
 
 not_both : (e : AddRefusal) (p : ℕ × Option ℕ) → ◌≡◌ {A = Result (ℕ × Option ℕ) AddRefusal} (Err e) (Ok p) → ⊥
 not_both e p w = (let z : ◌≡◌ {A = ℕ} 0 1 = cc in omega arith)
@@ -108,7 +107,8 @@ module _ {C : Type 0} {cost ord eq partial_ord : _} {m : Model C} (laws : Laws m
           answer = sym (ap (λ o. answer_by o m G h x) (refusal_is ∙ ap (by_room None) k.0));
           lived = record {
             few = (let y = ap (λ v. most_of v) same_nodes in let f = lived.few in omega arith);
-            stands = subst (λ v. Stands v (open_nodes h) (open_labels m (grammar_of b) h)) (sym same_nodes) (subst (λ z. Stands a.nodes (open_nodes h) (open_labels m z h)) (sym lists) lived.stands);
+            nodes = ap (λ v. nodes_of v) same_nodes ∙ lived.nodes;
+            labels = ap (λ v. labels_of v) same_nodes ∙ lived.labels ∙ ap (λ z. open_labels m z h) (sym lists);
             listed = subst (λ (z : Lists C). Listed z.operators (open_nodes h)) (sym lists) lived.listed;
             opens = lived.opens;
             knows = subst (λ z. Knows m z b.states (accepted h)) (sym lists) k.1;
@@ -131,11 +131,16 @@ module _ {C : Type 0} {cost ord eq partial_ord : _} {m : Model C} (laws : Laws m
     labels_are : open_labels m G (added x ∷ h) ≡ open_labels m G h ++ Some (label m G (accepted h ++ tree_of.0 ∷ []) tree_of.0) ∷ []
     labels_are = (λ i. map (option_map (label m G (accepted_is i))) (trees_are i)) ∙ labels_more laws G (accepted h) tree_of.0 (open_trees h) lived.opens
 
-    pub pushes_here : (v : Nodes) (l : Option ℕ) (o : Option NodeNumber) → Pushed a.nodes (open_nodes h) (open_labels m G h) x l o v → (number_of o ≡ Some (length (open_nodes h))) × Stands v (open_nodes h ++ x ∷ []) (open_labels m G h ++ l ∷ [])
-    pushes_here v l o p = pushed_more a.nodes v (open_nodes h) (open_labels m G h) x l o room_left (checked_below G.operators (most_nodes a) ns x passed) p
+    -- the list of nodes once it is pushed
+    pub pushes_here : (v : Nodes) (l : Option ℕ) (o : Option NodeNumber) → Pushed a.nodes x l o v → Appended a.nodes x l o v
+    pushes_here v l o p =
+        let n = ap length lived.nodes in
+        let r = room_left in
+        pushed_more a.nodes v x l o (omega arith)
+        (subst (λ z. Below (length z) (kids x.top)) (sym lived.nodes) (checked_below G.operators (most_nodes a) ns x passed)) p
 
-    pub adds_more : (j : ℕ) (b : Automaton C cost ord eq partial_ord) → b.grammar ≡ a.grammar → most_nodes b ≡ most_nodes a → Gives m G a.states b.states (accepted h) tree_of.0 (Ok j) → Stands b.nodes (open_nodes h ++ x ∷ []) (open_labels m G h ++ Some j ∷ []) → (r : Result (ℕ × Option ℕ) AddRefusal) → r ≡ Ok (length (open_nodes h), Some j) → AddsTo m a h x r b
-    adds_more j b same-grammar most g stands r q =
+    pub adds_more : (j : ℕ) (b : Automaton C cost ord eq partial_ord) → b.grammar ≡ a.grammar → most_nodes b ≡ most_nodes a → Gives m G a.states b.states (accepted h) tree_of.0 (Ok j) → (o : Option NodeNumber) → Appended a.nodes x (Some j) o b.nodes → (r : Result (ℕ × Option ℕ) AddRefusal) → r ≡ Ok (length (open_nodes h), Some j) → AddsTo m a h x r b
+    adds_more j b same-grammar most g o p r q =
         let k = room_by j b.states (lack m G (most_keys a) (most_rows a) (accepted h) tree_of.0) refl g in
         let lists : grammar_of b ≡ grammar_of a = ap (λ z. grammar_lists z.now) same-grammar in
         let labels : open_labels m (grammar_of b) (added x ∷ h) ≡ open_labels m G h ++ Some j ∷ [] = ap (λ z. open_labels m z (added x ∷ h)) lists ∙ labels_are ∙ ap (λ z. open_labels m G h ++ Some z ∷ []) (sym k.1) in
@@ -144,7 +149,8 @@ module _ {C : Type 0} {cost ord eq partial_ord : _} {m : Model C} (laws : Laws m
           answer = sym (ap (λ o. answer_by o m G h x) (refusal_is ∙ ap (by_room None) k.0) ∙ ap (λ o. Ok (length (open_nodes h), label_then m G (accepted h) o)) is_tree ∙ ap (λ z. Ok (length (open_nodes h), Some z)) (sym k.1));
           lived = record {
             few = (let f = lived.few in omega arith);
-            stands = subst (Stands b.nodes (open_nodes h ++ x ∷ [])) (sym labels) stands;
+            nodes = p.nodes ∙ ap (λ z. z ++ x ∷ []) lived.nodes;
+            labels = p.labels ∙ ap (λ z. z ++ Some j ∷ []) lived.labels ∙ sym labels;
             listed = subst (λ (z : Lists C). Listed z.operators (open_nodes h ++ x ∷ [])) (sym lists) more_listed;
             opens = λ i u e. subst (In u) (sym accepted_is) (opens_more (accepted h) tree_of.0 (open_trees h) lived.opens i u (ap (λ z. at z i) (sym trees_are) ∙ e));
             knows = subst (λ z. Knows m z b.states (accepted (added x ∷ h))) (sym lists) (subst (Knows m G b.states) (sym accepted_is) k.2);

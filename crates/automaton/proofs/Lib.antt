@@ -1,3 +1,4 @@
+pub mod Emptied
 pub mod Living
 pub mod Adding
 pub mod Births

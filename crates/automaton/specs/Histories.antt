@@ -62,6 +62,11 @@ abbrev pub or_0 : Option ℕ → ℕ
 or_0 None = 0
 or_0 (Some n) = n
 
+-- the label of a kid, none where there is no kid
+abbrev pub at_kid : List (Option ℕ) → Option ℕ → Option ℕ
+at_kid ls None = None
+at_kid ls (Some n) = at ls n
+
 -- the key of a node from the labels of the nodes of the open tree
 abbrev pub key_by : List (Option ℕ) → Applied ℕ → Key
 key_by ls (leaf op) = leaf op

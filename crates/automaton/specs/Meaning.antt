@@ -8,7 +8,7 @@ use Rattle.covers.specs.Ranks.{at}
 use Rattle.covers.specs.Nodes.{Node, Listed}
 use Rattle.covers.specs.Held.{In, rows_held, keys_held, label}
 use Rattle.nodes.specs.Checks.{check_node}
-use Rattle.nodes.specs.Meaning.{Stands, most_of}
+use Rattle.nodes.specs.Meaning.{nodes_of, labels_of, most_of}
 use Rattle.label.specs.Meaning.{Meaning, by_room}
 use Rattle.label.specs.declared.refusals.AddRefusal.{AddRefusal}
 use Rattle.label.specs.declared.refusals.BirthRefusal.{BirthRefusal}
@@ -35,7 +35,8 @@ most_rows a = a.states.most_rows
 -- and the states hold the rows and keys of all nodes accepted since the last clear
 pub record Lived {C : Type 0} {cost ord eq partial_ord : _} (m : Model C) (a : Automaton C cost ord eq partial_ord) (h : History) : Type 0 where
   pub few : most_nodes a ≤ 2048
-  pub stands : Stands a.nodes (open_nodes h) (open_labels m (grammar_of a) h)
+  pub nodes : nodes_of a.nodes ≡ open_nodes h
+  pub labels : labels_of a.nodes ≡ open_labels m (grammar_of a) h
   pub listed : Listed (grammar_of a).operators (open_nodes h)
   pub opens : (i : ℕ) (t : Tree) → at (open_trees h) i ≡ Some t → In t (accepted h)
   pub knows : Knows m (grammar_of a) a.states (accepted h)

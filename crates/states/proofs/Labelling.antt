@@ -22,7 +22,8 @@ use Rattle.entries.proofs.Seen.{put_seen}
 use Rattle.rows.specs.declared.held.Rows.{Rows}
 use Rattle.rows.specs.Meaning.{Holds, rows_room}
 use Rattle.states.specs.declared.states.States.{States}
-use Rattle.states.specs.declared.transition.NodeKey.{NodeKey}
+use Rattle.applied.specs.declared.Applied.{Applied}
+use Rattle.nodes.specs.declared.Label.{Label}
 use Rattle.states.specs.declared.transition.Transition.{Transition}
 use Rattle.states.specs.Keys.{key_of, lead_of, transition_key}
 use Rattle.states.specs.Leading.{Leads, led}
@@ -138,7 +139,7 @@ module _ {C : Type 0} {m : Model C} (l : Laws m) {G : Lists C} (v : States C) (t
       ]
 
       -- the row has its label, and the key is added
-      pub gives_added : (i : ℕ) (n : NodeKey) → key_of n ≡ key m G ts t → r ≡ Ok i → (tr : Table Transition) (a : Result ℕ Refusal) → ((keys : List Transition) → Means transition_key v.transitions keys → Puts transition_key v.transitions keys record { key = n; label = record { 0 = i } } a tr) → (w : States C) → w.rows ≡ u → w.transitions ≡ tr → w.rows.width ≡ count G → length w.work.now ≡ count G → w.most_keys ≤ room_of tr → w.most_rows ≤ rows_room w.rows → Gives m G v w ts t (Ok i)
+      pub gives_added : (i : ℕ) (n : Applied Label) → key_of n ≡ key m G ts t → r ≡ Ok i → (tr : Table Transition) (a : Result ℕ Refusal) → ((keys : List Transition) → Means transition_key v.transitions keys → Puts transition_key v.transitions keys record { key = n; label = record { 0 = i } } a tr) → (w : States C) → w.rows ≡ u → w.transitions ≡ tr → w.rows.width ≡ count G → length w.work.now ≡ count G → w.most_keys ≤ room_of tr → w.most_rows ≤ rows_room w.rows → Gives m G v w ts t (Ok i)
       gives_added i n is_key s tr a puts w b c d e f g = elim outcome [
         | inl q ↦ (
             let same : q.0 ≡ i = (let y = sym q.1 ∙ s in cc) in

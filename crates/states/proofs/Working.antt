@@ -1,5 +1,5 @@
 -- The row of a key from the rows of its labels, and how it is kept.
-use Rattle.std.proofs.Common.{◌≡◌, ℕ, ◌<◌, ◌≤◌, cond, List, [], map, length, get_or, Some, None, Ok, Err, sym, refl, ap, ◌∙◌, arith, Bor}
+use Rattle.std.proofs.Common.{◌≡◌, ℕ, ◌<◌, ◌≤◌, cond, List, [], map, length, get_or, Some, None, Ok, Err, Result, unwrap_or, sym, refl, ap, ◌∙◌, arith, Bor}
 use Rattle.std.proofs.lemmas.Bool.{lt-ltb, eq-eqb}
 use Rattle.cost.specs.Model.{Model}
 use Rattle.covers.specs.Rows.{Row, as_rank, as_ranks}
@@ -15,15 +15,27 @@ use Rattle.rows.specs.declared.held.Rows.{Rows}
 use Rattle.rows.specs.declared.kid.HeldRow.{HeldRow}
 use Rattle.rows.specs.Kids.{row_of}
 use Rattle.rows.specs.Meaning.{Holds, PutsRow, rows_room, room_for_row}
+use Rattle.label.specs.declared.refusals.NoRoom.{NoRoom}
 use Rattle.label.specs.declared.refusals.NoRoom.TheVariants.{Rows as NoRows}
-use Rattle.states.specs.declared.transition.NodeKey.{NodeKey}
-use Rattle.states.specs.declared.transition.NodeKey.TheVariants.{Leaf, Unary, Binary}
+use Rattle.applied.specs.declared.Applied.{Applied}
+use Rattle.applied.specs.declared.Applied.TheVariants.{Leaf, Unary, Binary}
+use Rattle.applied.specs.Kids.{first_in, second_in, over}
+use Rattle.nodes.specs.declared.Label.{Label}
 use Rattle.states.specs.Keys.{key_of}
 use Rattle.states.specs.Leading.{key_rows}
-use Rattle.states.specs.Placing.{kids_of_key, first_label, second_label, KeepsRow}
+use Rattle.states.specs.Placing.{KeepsRow}
+
+-- the answer of a put, as a label or a refusal
+abbrev pub put_label : Result ℕ Refusal → Result ℕ NoRoom
+put_label (Ok i) = Ok i
+put_label (Err e) = Err NoRows
+
+-- the label that stands for a kid which is not there
+abbrev pub no_label : Label
+no_label = record { 0 = 0 }
 
 -- the kids' costs are those of the rows of the labels
-pub kids_ranks : {C : Type 0} (held : List (Row C)) (k : NodeKey) (x y : Bor (HeldRow C)) → row_of x.now ≡ get_or held (first_label k) [] → row_of y.now ≡ get_or held (second_label k) [] → applied (λ z. costs_of (row_of z)) (kids_of_key k x y) ≡ as_ranks (key_rows held (key_of k))
+pub kids_ranks : {C : Type 0} (held : List (Row C)) (k : Applied Label) (x y : Bor (HeldRow C)) → row_of x.now ≡ get_or held (unwrap_or (first_in k) no_label).0 [] → row_of y.now ≡ get_or held (unwrap_or (second_in k) no_label).0 [] → applied (λ z. costs_of (row_of z)) (over k x y) ≡ as_ranks (key_rows held (key_of k))
 kids_ranks held (Leaf o) x y e f = refl
 kids_ranks held (Unary o a) x y e f = ap (unary o.0) (costs_as_ranks (row_of x.now) ∙ ap (map as_rank) e)
 kids_ranks held (Binary o a b) x y e f = (let p = costs_as_ranks (row_of x.now) ∙ ap (map as_rank) e in let q = costs_as_ranks (row_of y.now) ∙ ap (map as_rank) f in λ i. binary o.0 (p i) (q i))
@@ -65,3 +77,7 @@ module _ {C : Type 0} (m : Model C) (v : Rows C) (held : List (Row C)) (h : Hold
 
     pub keeps_refused : {A : Type 0} (e : Refusal) (u : Rows C) → PutsRow m v held x (Err e) u → A
     keeps_refused e u p = absurd (let a = p.answer ∙ answer in let z : ◌≡◌ {A = ℕ} 0 1 = cc in omega arith)
+
+    pub keeps_put : (r : Result ℕ Refusal) (u : Rows C) → PutsRow m v held x r u → KeepsRow m v held x most (put_label r) u
+    keeps_put (Ok i) u p = keeps_new i u p
+    keeps_put (Err e) u p = keeps_refused e u p

@@ -3,15 +3,15 @@ use Rattle.std.specs.Prelude.{ℕ, ◌+◌, ◌*◌, ◌%◌, ◌^◌}
 use Rattle.covers.specs.Trees.{leaf, unary, binary}
 use Rattle.covers.specs.Held.{Key, same_key}
 use Rattle.table.specs.Keys.{KeyModel}
-use Rattle.states.specs.declared.transition.NodeKey.{NodeKey}
-use Rattle.states.specs.declared.transition.NodeKey.TheVariants.{Leaf, Unary, Binary}
+use Rattle.applied.specs.Views.{applied_of}
+use Rattle.applied.specs.declared.Applied.{Applied}
+use Rattle.applied.specs.declared.Applied.TheVariants.{Leaf}
+use Rattle.nodes.specs.declared.Label.{Label}
 use Rattle.states.specs.declared.transition.Transition.{Transition}
 
 -- a key as the definitions have it
-abbrev pub key_of : NodeKey → Key
-key_of (Leaf o) = leaf o.0
-key_of (Unary o a) = unary o.0 a.0
-key_of (Binary o a b) = binary o.0 a.0 b.0
+abbrev pub key_of : Applied Label → Key
+key_of k = applied_of (λ (l : Label). l.0) k
 
 -- a key with its label
 abbrev pub lead_of : Transition → Key × ℕ

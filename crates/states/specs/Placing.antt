@@ -1,5 +1,4 @@
 -- The row of a key, worked out and kept.
-use Rattle.std.specs.Borrow.{Bor}
 use Rattle.std.specs.Prelude.{◌≡◌, ℕ, ◌<◌, ◌≤◌, List, length, Some, None, Ok, Err, Result}
 use Rattle.name.specs.Outcomes.{map_ok}
 use Rattle.cost.specs.Model.{Model}
@@ -8,30 +7,9 @@ use Rattle.covers.specs.Rows.{Row}
 use Rattle.nodes.specs.declared.Label.{Label}
 use Rattle.label.specs.declared.refusals.NoRoom.{NoRoom}
 use Rattle.label.specs.declared.refusals.NoRoom.TheVariants.{Rows as NoRows}
-use Rattle.row.specs.declared.kids.Kids.{Kids}
-use Rattle.row.specs.declared.kids.Kids.TheVariants.{Leaf as KidsLeaf, Unary as KidsUnary, Binary as KidsBinary}
 use Rattle.entries.specs.Walks.{row_place}
 use Rattle.rows.specs.declared.held.Rows.{Rows}
 use Rattle.rows.specs.Meaning.{Holds}
-use Rattle.states.specs.declared.transition.NodeKey.{NodeKey}
-use Rattle.states.specs.declared.transition.NodeKey.TheVariants.{Leaf, Unary, Binary}
-
--- the operator of a key with as many of two rows as it has labels
-abbrev pub kids_of_key : {K : Type 0} → NodeKey → Bor K → Bor K → Kids K
-kids_of_key (Leaf o) x y = KidsLeaf o.0
-kids_of_key (Unary o a) x y = KidsUnary o.0 x
-kids_of_key (Binary o a b) x y = KidsBinary o.0 x y
-
--- the labels of a key, and 0 where there is none
-abbrev pub first_label : NodeKey → ℕ
-first_label (Leaf o) = 0
-first_label (Unary o a) = a.0
-first_label (Binary o a b) = a.0
-
-abbrev pub second_label : NodeKey → ℕ
-second_label (Leaf o) = 0
-second_label (Unary o a) = 0
-second_label (Binary o a b) = b.0
 
 -- an answer with the label as a number
 abbrev pub label_answer : Result Label NoRoom → Result ℕ NoRoom

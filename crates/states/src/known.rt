@@ -6,12 +6,13 @@ ghost use Rattle.states.specs.declared.transition.Transition.{Transition as Tran
 ghost use Rattle.states.specs.Keys.{key_of, lead_of, transition_key};
 ghost use Rattle.states.specs.Leading.{led};
 
-use crate::transition::{NodeKey, Transition};
+use crate::transition::Transition;
+use applied::Applied;
 use nodes::Label;
 use table::Table;
 
 // The label that a key leads to, or none where the key is not held.
-pub(crate) fn known_label(transitions: &Table<Transition>, key: NodeKey) -> Option<Label>
+pub(crate) fn known_label(transitions: &Table<Transition>, key: Applied<Label>) -> Option<Label>
     ensures { (ks : List TransitionOf) → Means transition_key transitions.now ks → label_of result ≡ led (map lead_of ks) (key_of key) }
 {
     let sought = Transition {
@@ -19,8 +20,5 @@ pub(crate) fn known_label(transitions: &Table<Transition>, key: NodeKey) -> Opti
         label: Label(0),
     };
     let place = transitions.find(&sought)?;
-    match transitions.key_at(place) {
-        Some(found) => Some(found.label),
-        None => None,
-    }
+    transitions.key_at(place).map(|found| found.label)
 }

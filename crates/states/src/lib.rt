@@ -8,4 +8,4 @@ mod states;
 mod transition;
 
 pub use states::{Sizes, States};
-pub use transition::{NodeKey, Transition};
+pub use transition::Transition;

@@ -15,7 +15,8 @@ ghost use Rattle.states.specs.Room.{Next};
 
 use crate::known::known_label;
 use crate::placing::{keep_row, work_out};
-use crate::transition::{NodeKey, Transition};
+use crate::transition::Transition;
+use applied::Applied;
 use cost::Cost;
 use entries::{Entry, RowEnd};
 use grammar::parts::{NonterminalNumber, Rule, RuleNumber};
@@ -70,7 +71,7 @@ impl<'a, C: Cost> States<'a, C> {
 
     /// The label of a node with this key, after which the node counts as accepted. A key that is held leads to its label by one
     /// search; the row of a new one is worked out, and found or kept. Where there is no room, only the work places change.
-    pub fn label_for(&mut self, rules: &[Rule<C>], key: NodeKey) -> Result<Label, NoRoom>
+    pub fn label_for(&mut self, rules: &[Rule<C>], key: Applied<Label>) -> Result<Label, NoRoom>
         ensures gives { (G : Lists C) (ts : List Tree) (t : Tree) → Knows C.Cost.model G self.old ts → G.rules ≡ map rule_of rules.now → Next ts t → key_of key ≡ key_among C.Cost.model G ts t → Gives C.Cost.model G self.old self.new ts t (label_answer result) }
         ensures limits { SameLimits self.old self.new }
     {
