@@ -16,7 +16,7 @@ use Rattle.automaton.specs.Meaning.{grammar_of, most_nodes, Lived}
 none_listed : (ops : List OperatorOf) → Listed ops []
 none_listed ops = record { fits = λ i x e. absurd (none_some x e); below = λ i x e. absurd (none_some x e); once = tt }
 
-pub lived_none : {C : Type 0} (m : Model C) (a : Automaton C) (h : History) → open_nodes h ≡ [] → most_nodes a ≤ 2048
+pub lived_none : {C : Type 0} {cost ord eq partial_ord : _} (m : Model C) (a : Automaton C cost ord eq partial_ord) (h : History) → open_nodes h ≡ [] → most_nodes a ≤ 2048
     → nodes_of a.nodes ≡ [] → labels_of a.nodes ≡ [] → Knows m (grammar_of a) a.states (accepted h) → Lived m a h
 lived_none m a h e few nodes labels knows = record {
   few = few;
