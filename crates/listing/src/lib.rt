@@ -171,7 +171,7 @@ pub enum Source {
 }
 
 impl Source {
-    // Its letter in a fault.
+    // Its letter in a fault: bytes, as `word` takes them, so no `Display`.
     pub fn letter(self) -> &'static [u8]
         ensures { result.now ≡ letter self }
     {
