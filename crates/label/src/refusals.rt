@@ -9,9 +9,9 @@ use nodes::NodeRefusal;
 #[derive(Clone, Copy, PartialEq, Eq, Debug)]
 pub enum BirthRefusal {
     /// A capacity is out of range.
-    Capacity,
+    Capacity = 20,
     /// A piece of memory is too short.
-    Memory,
+    Memory = 21,
 }
 
 impl BirthRefusal {
@@ -19,10 +19,7 @@ impl BirthRefusal {
     pub fn number(self) -> u8
         ensures { result ≡ birth_number self }
     {
-        match self {
-            BirthRefusal::Capacity => 20,
-            BirthRefusal::Memory => 21,
-        }
+        self as u8
     }
 }
 
@@ -30,9 +27,9 @@ impl BirthRefusal {
 #[derive(Clone, Copy, PartialEq, Eq, Debug)]
 pub enum NoRoom {
     /// Its key is not held, and as many keys are held as there are places.
-    Keys,
+    Keys = 28,
     /// Its row is not held, and as many rows are held as there are places.
-    Rows,
+    Rows = 29,
 }
 
 impl NoRoom {
@@ -40,10 +37,7 @@ impl NoRoom {
     pub fn number(self) -> u8
         ensures { result ≡ room_number self }
     {
-        match self {
-            NoRoom::Keys => 28,
-            NoRoom::Rows => 29,
-        }
+        self as u8
     }
 }
 

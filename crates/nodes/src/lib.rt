@@ -60,13 +60,13 @@ impl NodePlace {
 #[derive(Clone, Copy, PartialEq, Eq, Debug)]
 pub enum NodeRefusal {
     /// The operator is not declared.
-    Operator,
+    Operator = 24,
     /// The operator takes another count of kids.
-    Kids,
+    Kids = 25,
     /// A kid is not in this tree, is a kid already, or is given twice.
-    Kid,
+    Kid = 26,
     /// As many nodes stand as the list may have.
-    Full,
+    Full = 27,
 }
 
 impl NodeRefusal {
@@ -74,12 +74,7 @@ impl NodeRefusal {
     pub fn number(self) -> u8
         ensures { result ≡ refusal_number self }
     {
-        match self {
-            NodeRefusal::Operator => 24,
-            NodeRefusal::Kids => 25,
-            NodeRefusal::Kid => 26,
-            NodeRefusal::Full => 27,
-        }
+        self as u8
     }
 }
 
