@@ -1,5 +1,5 @@
 -- The row of the newest node, moved to its place among the others.
-use Rattle.std.proofs.Common.{◌≡◌, ℕ, ◌+◌, ◌-◌, ◌*◌, ◌<◌, ◌≤◌, List, length, take, drop, Option, sym, refl, ap, ◌∙◌, mul-le-mul_right, add-mul, arith}
+use Rattle.std.proofs.Common.{◌≡◌, ℕ, ◌+◌, ◌-◌, ◌*◌, ◌<◌, ◌≤◌, List, length, take, drop, Option, sym, ap, ◌∙◌, mul-le-mul_right, add-mul, arith}
 use borrow.Rule.Slice.PartMut.{put_mid}
 use Rattle.std.proofs.lemmas.Slice.{between_is, between-put_mid, take-put_mid_below}
 use Rattle.row.specs.Views.{row_in}
@@ -16,15 +16,6 @@ ends_before n i j h = (let k : i + 1 ≤ j = omega arith in omega (arith, mul-le
 module _ {C : Type 0} (row : List (Option (Work C))) (k : ℕ) (xs : List (Option (Work C))) where
   abbrev n : ℕ
   n = length row
-
-  pub not_moved : (0 < k → (k - 1) * n + n ≤ length xs → ⊥) → RowMoved row k xs xs
-  not_moved h = record {
-    moved = λ i e l.
-        let same : i ≡ k - 1 = omega arith in
-        let place : i * n ≡ (k - 1) * n = ap (λ z. z * n) same in
-        absurd (h (omega arith) (omega arith));
-    others = λ i h. refl;
-  }
 
   pub row_moved : (a j : ℕ) (ys : List (Option (Work C))) → 0 < k → a ≡ (k - 1) * n → a + n ≤ length xs → ys ≡ row → RowMoved row k xs (put_mid a j xs ys)
   row_moved a j ys pos e fits same =

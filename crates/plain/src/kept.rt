@@ -36,6 +36,7 @@ fn start_of(places: usize, width: usize, node: usize) -> Option<usize>
     ensures { MatchOption result (places < node * width + width) (λ start. (start ≡ node * width) × (start + width ≤ places)) }
 {
     let start = node.checked_mul(width)?;
+    // Bounds test: the contract of a slice's `get_mut` does not say what the slice holds after the write.
     let end = start.checked_add(width)?;
     (end <= places).then_some(start)
 }

@@ -3,20 +3,12 @@ use Rattle.std.proofs.Common.{◌≡◌, ℕ, zero, suc, ◌+◌, ◌≤◌, Lis
 use Rattle.cost.specs.Model.{Model}
 use Rattle.grammar.specs.Lists.{RuleOf, Lists}
 use Rattle.covers.specs.Trees.{Applied}
-use Rattle.covers.specs.Ranks.{Ranks, Best, at, offers, first_from, choose, choices}
+use Rattle.covers.specs.Ranks.{Ranks, Best, at, choose, choices}
 use Rattle.covers.specs.Rows.{row_of, cost_entry}
 use Rattle.row.specs.Ranked.{rank_part, Few, RanksAre, ChosenAt, Chosen, BestAre, RowIs}
 use Rattle.row.proofs.Writing.{upto, upto_at, upto_set}
 
 module _ {C : Type 0} (m : Model C) (ρs : List (RuleOf C)) (s : Applied (Ranks C)) where
-  pub choice_none : (xs : List (Option (Best C))) (n : ℕ) → at xs n ≡ None → ChosenAt m ρs s xs n None
-  choice_none xs n e few G rules = sym (ap (λ o. choose m G s (map rank_part xs) n (rank_part o)) e)
-
-  pub choice_some : (xs : List (Option (Best C))) (n : ℕ) (y : Best C) (r : ℕ) → at xs n ≡ Some y → (Few (map rank_part xs) → r ≡ first_from (offers m s (map rank_part xs) n (y.0, y.1)) 1 ρs) → ChosenAt m ρs s xs n (Some (y.0, y.1, r))
-  choice_some xs n y r e h few G rules =
-      let first : r ≡ first_from (offers m s (map rank_part xs) n (y.0, y.1)) 1 G.rules = h few ∙ ap (first_from (offers m s (map rank_part xs) n (y.0, y.1)) 1) (sym rules) in
-      (λ i. Some (y.0, y.1, first i)) ∙ sym (ap (λ o. choose m G s (map rank_part xs) n (rank_part o)) e)
-
   -- what stands at n with its rule chosen, over the ranks rs
   abbrev pick : Lists C → Ranks C → ℕ → Option (Best C) → Option (Best C)
   pick G rs n o = choose m G s rs n (rank_part o)

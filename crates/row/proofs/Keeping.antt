@@ -1,5 +1,5 @@
 -- What one write to the work places comes to.
-use Rattle.std.proofs.Common.{◌≡◌, ℕ, ◌<◌, true, false, cond, List, map, length, set, get_or, Some, None, Option, sym, refl, ap, ◌∙◌}
+use Rattle.std.proofs.Common.{◌≡◌, ℕ, ◌<◌, true, cond, List, map, length, set, get_or, Some, None, Option, sym, refl, ap, ◌∙◌}
 use Rattle.std.proofs.lemmas.List.{map-set, get_or_default}
 use Rattle.cost.specs.Model.{Model}
 use Rattle.covers.specs.Ranks.{at}
@@ -14,9 +14,3 @@ module _ {C : Type 0} (m : Model C) where
   keep_takes ws n w d h e t =
       let here : at (map kept_of ws) n ≡ kept_of d = at_map kept_of refl ws n ∙ ap kept_of (get_or_default ws n None d h ∙ sym e) in
       map-set kept_of ws n (Some w) ∙ sym (ap (λ z. cond z (set (map kept_of ws) n (Some (kept w))) (map kept_of ws)) (ap (improves m (kept w)) here ∙ t))
-
-  -- what is no better is not written
-  pub keep_stays : (ws : List (Option (Work C))) (n : ℕ) (w : Work C) (d : Option (Work C)) → n < length ws → d ≡ get_or ws n d → improves m (kept w) (kept_of d) ≡ false → map kept_of ws ≡ keep m (map kept_of ws) n (kept w)
-  keep_stays ws n w d h e t =
-      let here : at (map kept_of ws) n ≡ kept_of d = at_map kept_of refl ws n ∙ ap kept_of (get_or_default ws n None d h ∙ sym e) in
-      sym (ap (λ z. cond z (set (map kept_of ws) n (Some (kept w))) (map kept_of ws)) (ap (improves m (kept w)) here ∙ t))

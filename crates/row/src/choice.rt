@@ -46,7 +46,12 @@ impl<'r, 'k, K: KidRow> Step<'r, 'k, K> {
     }
 
     // The number of the first rule from n that gives the rank of the work place; 0 where there is none, as the definition has it.
-    fn first_rule(&self, work: &[Option<Work<K::Cost>>], n: usize, best: &Work<K::Cost>) -> RuleNumber
+    fn first_rule(
+        &self,
+        work: &[Option<Work<K::Cost>>],
+        n: usize,
+        best: &Work<K::Cost>,
+    ) -> RuleNumber
         ensures { Few (ranks_in work.now) → result.0 ≡ first_from (offers K.Cost.Cost.model (applied K.KidRow.costs self.now.kids) (ranks_in work.now) n (best.now.cost, best.now.chains)) 1 (map rule_of self.now.rules.now) }
     {
         self.rules

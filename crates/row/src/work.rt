@@ -53,6 +53,7 @@ pub(crate) fn keep_better<C: Cost>(work: &mut [Option<Work<C>>], n: usize, new: 
 {
     match work.get(n) {
         Some(old) if is_better(new, *old) => {
+            // Write by index: the contract of a slice's `get_mut` does not say what the slice holds after the write.
             work[n] = Some(new);
             true
         }
