@@ -73,8 +73,8 @@ pub trait Labeller: Sized {
     fn rule(&self, rule: RuleNumber) -> Option<Rule<Self::Cost>>
         ensures { (μ : Meaning Self.Cost) → means self.now μ → option_map rule_of result ≡ rule_numbered μ.grammar rule.0 };
 
-    /// How many nodes the open tree has. What is meant is always in order: this is a clause and not a law of the trait, since an impl
-    /// with a lifetime parameter gets no proof of a law.
+    /// How many nodes the open tree has. What is meant is always in order: a caller learns this by a clause here, and need know no law
+    /// of the trait.
     fn count(&self) -> usize
         ensures count { (μ : Meaning Self.Cost) → means self.now μ → result ≡ length μ.nodes }
         ensures sound { (μ : Meaning Self.Cost) → means self.now μ → Sound Self.Cost.Cost.model μ };

@@ -45,12 +45,8 @@ fn kept_row<C: Cost>(rows: &[Option<Work<C>>], width: usize, node: Option<NodeNu
     ensures { (k : NumberOf) → node ≡ Some k → k.0 * width + width ≤ length rows.now → row_in result.places.now ≡ row_at rows.now width k.0 }
 {
     let start = node.and_then(|k| start_of(rows.len(), width, k.0));
-    match start {
-        Some(start) => KeptRow {
-            places: &rows[start..start + width],
-        },
-        None => KeptRow { places: &[] },
-    }
+    let places = start.map_or(&rows[..0], |start| &rows[start..start + width]);
+    KeptRow { places }
 }
 
 // The row of a node from the rows of its kids, into as many places as there are nonterminals.
@@ -84,7 +80,7 @@ pub(crate) fn rule_at<C: Copy>(places: &[Option<Work<C>>], n: usize) -> Option<R
     ensures { rule_number result ≡ rule_in (row_in places.now) n }
 {
     let place = places.get(n).copied().flatten();
-    place.map(|best| RuleNumber(best.rule))
+    place.map(|best| best.rule)
 }
 
 // The rule that the row of an earlier node has for a nonterminal.

@@ -11,7 +11,7 @@ use Rattle.row.specs.declared.work.Work.{Work}
 
 -- a work place as cost, number of chain rules and rule
 abbrev pub kept : {C : Type 0} → Work C → Best C
-kept w = (w.cost, w.chains, w.rule)
+kept w = (w.cost, w.chains, w.rule.0)
 
 abbrev pub kept_of : {C : Type 0} → Option (Work C) → Option (Best C)
 kept_of o = option_map kept o

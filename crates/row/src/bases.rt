@@ -7,7 +7,7 @@ ghost use Rattle.row.specs.Views.{kept_of, applied};
 use crate::kids::{KidRow, Step};
 use crate::work::{Work, keep_better};
 use cost::Cost;
-use grammar::parts::Rule;
+use grammar::parts::RuleNumber;
 
 // Nothing is known of any nonterminal.
 pub(crate) fn forget<C: Cost>(work: &mut [Option<Work<C>>])
@@ -26,7 +26,7 @@ impl<'r, 'k, K: KidRow> Step<'r, 'k, K> {
                 let new = Work {
                     cost,
                     chains: 0,
-                    rule: i + 1,
+                    rule: RuleNumber(i + 1),
                 };
                 keep_better(work, rule.left.0, new);
             }

@@ -9,7 +9,7 @@ use crate::kids::{KidRow, Step};
 use crate::rounds::chain_rank;
 use crate::work::{Work, compare_ranks, place};
 use cost::Cost;
-use grammar::parts::Rule;
+use grammar::parts::{Rule, RuleNumber};
 
 // Whether a rank is the one of a work place.
 fn is_rank_of<C: Cost>(rank: Option<(C, usize)>, best: &Work<C>) -> bool
@@ -45,14 +45,14 @@ impl<'r, 'k, K: KidRow> Step<'r, 'k, K> {
         rule.left.0 == n && is_rank_of(self.rule_rank(rule, work), best)
     }
 
-    // The number of the first rule from n that gives the rank of the work place; 0 where there is none.
-    fn first_rule(&self, work: &[Option<Work<K::Cost>>], n: usize, best: &Work<K::Cost>) -> usize
-        ensures { Few (ranks_in work.now) → result ≡ first_from (offers K.Cost.Cost.model (applied K.KidRow.costs self.now.kids) (ranks_in work.now) n (best.now.cost, best.now.chains)) 1 (map rule_of self.now.rules.now) }
+    // The number of the first rule from n that gives the rank of the work place; 0 where there is none, as the definition has it.
+    fn first_rule(&self, work: &[Option<Work<K::Cost>>], n: usize, best: &Work<K::Cost>) -> RuleNumber
+        ensures { Few (ranks_in work.now) → result.0 ≡ first_from (offers K.Cost.Cost.model (applied K.KidRow.costs self.now.kids) (ranks_in work.now) n (best.now.cost, best.now.chains)) 1 (map rule_of self.now.rules.now) }
     {
         self.rules
             .iter()
             .position(|rule| self.is_choice(rule, work, n, best))
-            .map_or(0, |i| i + 1)
+            .map_or(RuleNumber(0), |i| RuleNumber(i + 1))
     }
 
     // What stands at n, with its rule chosen.

@@ -10,10 +10,7 @@ use cost::Cost;
 fn lesser_cost<C: Cost>(cost: C, other: Option<C>) -> C
     ensures { result ≡ lesser C.Cost.model cost other }
 {
-    match other {
-        Some(x) if x.compare(&cost).is_lt() => x,
-        _ => cost,
-    }
+    other.filter(|x| x.compare(&cost).is_lt()).unwrap_or(cost)
 }
 
 // The least cost of the work places, from the last to the first; none where all are empty.

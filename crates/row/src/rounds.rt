@@ -6,7 +6,7 @@ ghost use Rattle.row.specs.Views.{kept_of};
 
 use crate::work::{Work, keep_better, place};
 use cost::Cost;
-use grammar::parts::{Form, Rule};
+use grammar::parts::{Form, Rule, RuleNumber};
 
 // What a rule gives over its source: none where it is no chain rule, or its source has no cost yet.
 pub(crate) fn chain_rank<C: Cost>(rule: &Rule<C>, work: &[Option<Work<C>>]) -> Option<(C, usize)>
@@ -32,7 +32,7 @@ pub(crate) fn round<C: Cost>(rules: &[Rule<C>], work: &mut [Option<Work<C>>]) ->
             let new = Work {
                 cost: rank.0,
                 chains: rank.1,
-                rule: i + 1,
+                rule: RuleNumber(i + 1),
             };
             changed |= keep_better(work, rule.left.0, new);
         }

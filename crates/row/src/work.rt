@@ -5,6 +5,7 @@ ghost use Rattle.row.specs.Kept.{improves, keep};
 ghost use Rattle.row.specs.Views.{kept, kept_of};
 
 use cost::Cost;
+use grammar::parts::RuleNumber;
 use std::cmp::Ordering;
 
 // A cost, the number of chain rules at the node, and the number of the rule that gave them.
@@ -12,11 +13,11 @@ use std::cmp::Ordering;
 pub struct Work<C> {
     pub cost: C,
     pub chains: usize,
-    pub rule: usize,
+    pub rule: RuleNumber,
 }
 
 impl<C: Cost> Work<C> {
-    // The cost and the number of chain rules, without the rule.
+    // The cost and the number of chain rules, without the rule. A rank is a pair, as the definitions have it: a struct needs a view.
     pub(crate) fn rank(&self) -> (C, usize)
         ensures { result ≡ (self.now.cost, self.now.chains) }
     {

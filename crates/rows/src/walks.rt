@@ -11,7 +11,6 @@ ghost use Rattle.rows.specs.Meaning.{LaysRow, keys_in};
 
 use cost::Cost;
 use entries::{Choice, Entry};
-use grammar::parts::RuleNumber;
 use row::Work;
 use table::{Refusal, Slot, Table};
 
@@ -33,7 +32,7 @@ fn entry_after<C: Copy>(before: Option<u32>, work: &Option<Work<C>>) -> Entry<C>
     let choice = match work {
         None => None,
         Some(x) => Some(Choice {
-            rule: RuleNumber(x.rule),
+            rule: x.rule,
             cost: x.cost,
         }),
     };
