@@ -1,4 +1,3 @@
-pub mod Emptied
 pub mod Living
 pub mod Adding
 pub mod Births

@@ -5,7 +5,7 @@ use Rattle.grammar.specs.Lists.{Lists, Sealed}
 use Rattle.covers.specs.Nodes.{Node, Listed}
 use Rattle.covers.specs.Held.{rows_held, keys_held}
 use Rattle.nodes.specs.Checks.{check_node}
-use Rattle.nodes.proofs.Pushing.{nodes_count, labels_count}
+use Rattle.nodes.proofs.Pushing.{nodes_few, labels_count}
 use Rattle.label.specs.Meaning.{Meaning, Sound, Started, Cleared, AddsBy, Adds, by_room, refusal}
 use Rattle.label.specs.declared.refusals.AddRefusal.{AddRefusal}
 use Rattle.automaton.specs.declared.Automaton.{Automaton}
@@ -36,7 +36,7 @@ module _ {C : Type 0} {cost ord eq partial_ord : _} (m : Model C) (a : Automaton
         sealed = subst (Sealed m) (sym g) l.knows.sealed;
         few = (let e = means.most in let f = l.few in omega arith);
         listed = subst (λ (z : Lists C). Listed z.operators μ.nodes) (sym g) (subst (Listed (grammar_of a).operators) (sym means.nodes) l.listed);
-        within = (let e = means.most in let n = ap length means.nodes in let k = ap length l.nodes in let c = nodes_count a.nodes in let f = a.nodes.few in omega arith);
+        within = (let e = means.most in let n = ap length means.nodes in let k = ap length l.nodes in let f = nodes_few a.nodes in omega arith);
         labelled = ap length means.labels ∙ ap length (sym l.labels) ∙ labels_count a.nodes ∙ ap length l.nodes ∙ ap length (sym means.nodes);
       }
 

@@ -67,12 +67,15 @@ module _ (xs ys : List NodePlace) (n : ℕ) (x : CodeNode) (l : Option Label) (r
       (cases_lt i n)
       ∙ sym (among_join i all ks) ∙ ap (among i) (sym all_are)
 
--- how many nodes and labels a list has
+-- how many nodes and labels a list has: no more nodes than it may have, and as many labels
 pub nodes_count : (v : Nodes) → length (nodes_of v) ≡ v.len
 nodes_count v =
     let f = v.fits in
     let g = v.few in
     length-map (take v.len (places_of v)) (λ (p : NodePlace). node_of p.node) ∙ length-take-le v.len (places_of v) (omega arith)
+
+pub nodes_few : (v : Nodes) → length (nodes_of v) ≤ most_of v
+nodes_few v = (let few = v.few in let n = nodes_count v in omega arith)
 
 pub labels_count : (v : Nodes) → length (labels_of v) ≡ length (nodes_of v)
 labels_count v =

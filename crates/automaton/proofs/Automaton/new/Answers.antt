@@ -1,12 +1,12 @@
-use Rattle.std.proofs.Common.{◌≡◌, ◌≤◌, true, false, [], length, sym, refl, ap, ◌∙◌, arith}
+use Rattle.std.proofs.Common.{◌≡◌, ◌≤◌, true, false, length, sym, refl, ap, ◌∙◌, arith}
 use native.Mathlib.Nat.{min-eq_left}
 use Rattle.covers.specs.Trees.{count}
+use Rattle.covers.proofs.Relaxing.{none_some}
 use Rattle.grammar.specs.Lists.{Lists}
 use Rattle.grammar.specs.Meaning.{grammar_lists}
 use Rattle.grammar.specs.Views.{nonterminal_of}
 use Rattle.table.specs.Chains.{room_for}
 use Rattle.automaton.specs.Birth.{lengths, enough}
-use Rattle.automaton.proofs.Emptied.{lived_none}
 use Rattle.automaton.proofs.Births.{long_as, ranges, fits, birth_range, birth_by, rows_fit}
 use Rattle.automaton.proofs.Automaton.new.Goals as goal
 
@@ -42,8 +42,12 @@ returns g c =
       most,
       c.new-2.ensures.keys,
       c.new-2.ensures.rows,
-      λ sealed.
-          let small : c.args.capacities.nodes ≤ 2048 = r.nodes in
-          lived_none g.C.Cost.model _ [] refl (omega (arith, most)) c.new.ensures.nodes c.new.ensures.labels
-          (c.new-2.ensures.knows G sealed (sym wide) f.work keys (rows_fit (length c.args.memory.labels.now) (length c.args.memory.rows.now) caps.rows n f.labels f.rows r.rows narrow)),
+      λ sealed. record {
+        few = (let a = r.nodes in omega arith);
+        nodes = c.new.ensures.nodes;
+        labels = c.new.ensures.labels;
+        listed = record { fits = λ i x e. absurd (none_some x e); below = λ i x e. absurd (none_some x e); once = tt };
+        opens = λ i t e. absurd (none_some t e);
+        knows = c.new-2.ensures.knows G sealed (sym wide) f.work keys (rows_fit (length c.args.memory.labels.now) (length c.args.memory.rows.now) caps.rows n f.labels f.rows r.rows narrow);
+      },
     )
