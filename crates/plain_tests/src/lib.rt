@@ -18,12 +18,13 @@ pub fn nodes_after_start<L: Labeller>(labeller: &mut L) -> usize
 #[cfg(test)]
 mod tests {
     use super::*;
+    use applied::Applied;
     use cost::Count;
     use grammar::draft::Draft;
     use grammar::grammar::Grammar;
     use grammar::parts::{KidNames, NonterminalNumber, OperatorNumber};
     use name::Name;
-    use nodes::{Node, NodeKids, NodeNumber, NodePlace};
+    use nodes::{Node, NodeNumber, NodePlace};
     use plain::Plain;
     use row::Work;
     use std::alloc::Global;
@@ -56,17 +57,15 @@ mod tests {
 
     fn constant() -> Node {
         Node {
-            operator: OperatorNumber(0),
+            top: Applied::Leaf(OperatorNumber(0)),
             payload: 7,
-            kids: NodeKids::None,
         }
     }
 
     fn sum(left: usize, right: usize) -> Node {
         Node {
-            operator: OperatorNumber(1),
+            top: Applied::Binary(OperatorNumber(1), NodeNumber(left), NodeNumber(right)),
             payload: 0,
-            kids: NodeKids::Two(NodeNumber(left), NodeNumber(right)),
         }
     }
 
@@ -80,10 +79,9 @@ mod tests {
 
     // The rule chosen, and 0 where there is none.
     fn chosen(labeller: &Plain<Count>, node: usize, nonterminal: NonterminalNumber) -> usize {
-        match labeller.choice(NodeNumber(node), nonterminal) {
-            Some(rule) => rule.0,
-            None => 0,
-        }
+        labeller
+            .choice(NodeNumber(node), nonterminal)
+            .map_or(0, |rule| rule.0)
     }
 
     #[test]
