@@ -1,11 +1,11 @@
--- A labeller with one more node.
+-- A list with one more node, and the row places with its row.
 use Rattle.std.proofs.Common.{◌≡◌, ℕ, ◌+◌, ◌*◌, ◌<◌, ◌≤◌, List, [], ◌∷◌, ◌++◌, length, ℤ, Some, None, Option, sym, refl, ap, ◌∙◌, subst, inl, inr, arith}
 use Rattle.std.proofs.lemmas.List.{map_push}
 use Rattle.std.proofs.lemmas.Bool.{cases_lt}
 use Rattle.std.specs.Option.{option_zip}
 use Rattle.cost.specs.Model.{Model}
-use Rattle.grammar.specs.Lists.{Lists}
-use Rattle.covers.specs.Nodes.{Node, kids, Below, tree_over, subtrees_after, subtree}
+use Rattle.grammar.specs.Lists.{Lists, Declared}
+use Rattle.covers.specs.Nodes.{Node, kids, Below, Listed, tree_over, subtrees_after, subtree}
 use Rattle.covers.specs.Ranks.{at}
 use Rattle.covers.specs.Rows.{cost_row, kid_cost_rows, cost_row_from}
 use Rattle.covers.specs.Trees.{Applied, leaf, unary, binary, Tree, node0, node1, node2, count}
@@ -21,32 +21,27 @@ use Rattle.nodes.specs.Views.{node_of}
 use Rattle.nodes.proofs.Right.{checked_room, checked_below, checked_listed}
 use Rattle.row.specs.Views.{row_in}
 use Rattle.row.specs.declared.work.Work.{Work}
-use Rattle.plain.specs.declared.Plain.{Plain}
-use Rattle.plain.specs.declared.kept.RowPlaces.{RowPlaces}
-use Rattle.plain.specs.Meaning.{grammar_of, most_nodes, newest_in, earlier_in, no_labels, Keeps}
+use Rattle.plain.specs.Keeping.{no_labels, Keeps}
 use Rattle.plain.specs.Rows.{row_at, rows_under, KidsKept, RowAdded}
 use Rattle.plain.proofs.Moving.{ends_before}
 
-module _ {C : Type 0} {cost ord eq partial_ord : _} (m : Model C) (p : Plain C cost ord eq partial_ord) (ns : List Node) (keeps : Keeps m p ns) where
-  abbrev G : Lists C
-  G = grammar_of p
+module _ {C : Type 0} (m : Model C) (G : Lists C) (declared : Declared G) (old : Nodes) (row rows : List (Option (Work C))) (keeps : Keeps m G old row rows) where
+  abbrev ns : List Node
+  ns = nodes_of old
 
   abbrev n : ℕ
   n = count G
 
   -- each node has places among the earlier ones while there is room for another
-  pub has_places : length ns < most_nodes p → (a : ℕ) → a < length ns → a * n + n ≤ length (earlier_in p)
+  pub has_places : length ns < most_of old → (a : ℕ) → a < length ns → a * n + n ≤ length rows
   has_places room a h =
       let all = keeps.places in
       let wide = keeps.width in
-      omega (arith, ends_before n a (length ns) h, ends_before n (length ns) (most_nodes p) room)
+      omega (arith, ends_before n a (length ns) h, ends_before n (length ns) (most_of old) room)
 
-  module _ (room : length ns < most_nodes p) (r : RowPlaces C) (x : CodeNode) (u : ℕ) (number : u ≡ length ns) (added : RowAdded m G.rules u x (newest_in p) (earlier_in p) r.newest.now r.earlier.now) where
-    abbrev ys : List (Option (Work C))
-    ys = r.earlier.now
-
+  module _ (room : length ns < most_of old) (ys' ys : List (Option (Work C))) (x : CodeNode) (u : ℕ) (number : u ≡ length ns) (added : RowAdded m G.rules u x row rows ys' ys) where
     abbrev w : ℕ
-    w = length (newest_in p)
+    w = length row
 
     -- the earlier places have the row of each node
     earlier_row : (a : ℕ) (t : Tree) → a < length ns → subtree ns a ≡ Some t → row_at ys n a ≡ cost_row m G t
@@ -54,10 +49,10 @@ module _ {C : Type 0} {cost ord eq partial_ord : _} (m : Model C) (p : Plain C c
         let wide : w ≡ n = keeps.width in
         ap (λ z. row_at ys z a) (sym wide)
         ∙ elim (cases_lt (a + 1) (length ns)) [
-          | inl l ↦ added.moved.others a (omega arith) ∙ ap (λ z. row_at (earlier_in p) z a) wide ∙ keeps.earlier a t s l
+          | inl l ↦ added.moved.others a (omega arith) ∙ ap (λ z. row_at rows z a) wide ∙ keeps.earlier a t s l
           | inr l ↦
               let last : a + 1 ≡ length ns = omega arith in
-              let fits : a * w + w ≤ length (earlier_in p) = subst (λ z. a * z + z ≤ length (earlier_in p)) (sym wide) (has_places room a h) in
+              let fits : a * w + w ≤ length rows = subst (λ z. a * z + z ≤ length rows) (sym wide) (has_places room a h) in
               added.moved.moved a (omega arith) fits ∙ keeps.newest a t s last
         ]
 
@@ -92,12 +87,12 @@ module _ {C : Type 0} {cost ord eq partial_ord : _} (m : Model C) (p : Plain C c
       subtrees_are : subtrees_after [] (ns ++ node_of x ∷ []) ≡ subtrees_after [] ns ++ o ∷ []
       subtrees_are = subtrees_split ns (node_of x ∷ []) []
 
-      newest_row : (t : Tree) → o ≡ Some t → row_in r.newest.now ≡ cost_row m G t
+      newest_row : (t : Tree) → o ≡ Some t → row_in ys' ≡ cost_row m G t
       newest_row t e =
           let top = (node_of x).top in
           let wide : w ≡ n = keeps.width in
           let long = added.size in
-          added.over (kids_kept top below) G keeps.sealed.declared refl (omega arith)
+          added.over (kids_kept top below) G declared refl (omega arith)
           ∙ ap (λ z. cost_row_from m G (rows_under ys z top)) wide
           ∙ ap (cost_row_from m G) (rows_are top (node_of x).payload t below e)
           ∙ sym (cost_rows m G t)
@@ -106,7 +101,7 @@ module _ {C : Type 0} {cost ord eq partial_ord : _} (m : Model C) (p : Plain C c
       last_is : (i : ℕ) → i + 1 ≡ length (ns ++ node_of x ∷ []) → i ≡ length (subtrees_after [] ns)
       last_is i h = omega (arith, length_more ns (node_of x), subtrees_length ns [])
 
-      new_newest : (i : ℕ) (t : Tree) → subtree (ns ++ node_of x ∷ []) i ≡ Some t → i + 1 ≡ length (ns ++ node_of x ∷ []) → row_in r.newest.now ≡ cost_row m G t
+      new_newest : (i : ℕ) (t : Tree) → subtree (ns ++ node_of x ∷ []) i ≡ Some t → i + 1 ≡ length (ns ++ node_of x ∷ []) → row_in ys' ≡ cost_row m G t
       new_newest i t s h =
           newest_row t (sym (at_last (subtrees_after [] ns) o) ∙ ap (at (subtrees_after [] ns ++ o ∷ [])) (sym (last_is i h)) ∙ ap (λ z. at z i) (sym subtrees_are) ∙ s)
 
@@ -118,25 +113,22 @@ module _ {C : Type 0} {cost ord eq partial_ord : _} (m : Model C) (p : Plain C c
             | inr k ↦ absurd (let e = k.0 in omega (arith, subtrees_length ns []))
           ]
 
-  -- the labeller with a node that passed the checks
-  pub keeps_more : (v : Nodes) (r : RowPlaces C) (x : CodeNode) (u : ℕ) → check_node G.operators (most_nodes p) ns (node_of x) ≡ None → u ≡ length ns
-      → most_of v ≡ most_nodes p → nodes_of v ≡ ns ++ node_of x ∷ [] → labels_of v ≡ no_labels ns ++ None ∷ []
-      → RowAdded m G.rules u x (newest_in p) (earlier_in p) r.newest.now r.earlier.now
-      → Keeps m (record { grammar = p.grammar; nodes = v; rows = r }) (ns ++ node_of x ∷ [])
-  keeps_more v r x u passed number most nodes labels added =
-      let room = checked_room G.operators (most_nodes p) ns (node_of x) passed in
-      let below = checked_below G.operators (most_nodes p) ns (node_of x) passed in
+  -- a list with a node that passed the checks
+  pub keeps_more : (v : Nodes) (ys' ys : List (Option (Work C))) (x : CodeNode) (u : ℕ) → check_node G.operators (most_of old) ns (node_of x) ≡ None → u ≡ length ns
+      → most_of v ≡ most_of old → nodes_of v ≡ ns ++ node_of x ∷ [] → labels_of v ≡ labels_of old ++ None ∷ []
+      → RowAdded m G.rules u x row rows ys' ys → Keeps m G v ys' ys
+  keeps_more v ys' ys x u passed number most nodes labels added =
+      let room = checked_room G.operators (most_of old) ns (node_of x) passed in
+      let below = checked_below G.operators (most_of old) ns (node_of x) passed in
       let few = keeps.few in
       let size = added.size in
       let sizes = added.sizes in
       record {
-        sealed = keeps.sealed;
         few = omega arith;
-        nodes = nodes;
-        labels = labels ∙ sym (map_push (λ (_ : Node). None) ns (node_of x));
-        listed = checked_listed G.operators (most_nodes p) ns (node_of x) keeps.listed passed;
+        labels = labels ∙ ap (λ z. z ++ None ∷ []) keeps.labels ∙ sym (map_push (λ (_ : Node). None) ns (node_of x)) ∙ ap no_labels (sym nodes);
+        listed = subst (Listed G.operators) (sym nodes) (checked_listed G.operators (most_of old) ns (node_of x) keeps.listed passed);
         width = size ∙ keeps.width;
-        places = subst (λ z. z * n ≤ length r.newest.now + length r.earlier.now) (sym most) (omega (arith, keeps.places));
-        newest = new_newest room r x u number added below;
-        earlier = new_earlier room r x u number added below;
+        places = subst (λ z. z * n ≤ length ys' + length ys) (sym most) (omega (arith, keeps.places));
+        newest = subst (λ z. (i : ℕ) (t : Tree) → subtree z i ≡ Some t → i + 1 ≡ length z → row_in ys' ≡ cost_row m G t) (sym nodes) (new_newest room ys' ys x u number added below);
+        earlier = subst (λ z. (i : ℕ) (t : Tree) → subtree z i ≡ Some t → i + 1 < length z → row_at ys n i ≡ cost_row m G t) (sym nodes) (new_earlier room ys' ys x u number added below);
       }

@@ -1,16 +1,18 @@
 -- Births that are refused, and those that are not.
-use Rattle.std.proofs.Common.{◌≡◌, ℕ, ◌+◌, ◌*◌, ◌<◌, ◌≤◌, Bool, true, false, cond, ◌&&◌, leb, ◌⊎◌, List, [], map, length, Some, None, sym, ap, ◌∙◌, inl, inr}
+use Rattle.std.proofs.Common.{◌≡◌, ℕ, ◌+◌, ◌*◌, ◌<◌, ◌≤◌, Bool, true, false, cond, ◌&&◌, leb, ◌⊎◌, List, [], map, length, Some, None, Option, sym, ap, ◌∙◌, subst, inl, inr}
 use Rattle.std.proofs.lemmas.List.{length-map}
 use Rattle.std.proofs.lemmas.Bool.{le-leb, lt-leb, and_from, and_left, and_right}
 use Rattle.cost.specs.Model.{Model}
-use Rattle.grammar.specs.Lists.{Sealed}
+use Rattle.grammar.specs.Lists.{Lists}
+use Rattle.covers.specs.Nodes.{Listed, subtree}
 use Rattle.covers.specs.Trees.{count}
 use Rattle.covers.proofs.Relaxing.{none_some}
-use Rattle.nodes.specs.Meaning.{nodes_of, labels_of}
+use Rattle.nodes.specs.declared.Nodes.{Nodes}
+use Rattle.nodes.specs.Meaning.{most_of, nodes_of, labels_of}
+use Rattle.row.specs.declared.work.Work.{Work}
 use Rattle.label.specs.declared.refusals.BirthRefusal.TheVariants.{Capacity, Memory}
-use Rattle.plain.specs.declared.Plain.{Plain}
 use Rattle.plain.specs.Birth.{node_capacity, birth}
-use Rattle.plain.specs.Meaning.{grammar_of, most_nodes, newest_in, earlier_in, Keeps}
+use Rattle.plain.specs.Keeping.{no_labels, Keeps}
 
 -- how many items a list has that is read through a view
 pub lengths : {A B : Type 0} (f : A → B) (xs : List A) (ys : List B) → map f xs ≡ ys → length xs ≡ length ys
@@ -30,17 +32,15 @@ module _ (most n nodes rows : ℕ) (least : 1 ≤ most) (few : most ≤ 2048) wh
   pub birth_fits : most ≤ nodes → most * n ≤ rows → birth most n nodes rows ≡ None
   birth_fits h k = birth_by true (and_from (leb most nodes) (leb (most * n) rows) (le-leb most nodes h) (le-leb (most * n) rows k))
 
--- a labeller without nodes keeps no rows
-pub keeps_none : {C : Type 0} {cost ord eq partial_ord : _} (m : Model C) (p : Plain C cost ord eq partial_ord) → Sealed m (grammar_of p) → most_nodes p ≤ 2048 → nodes_of p.nodes ≡ [] → labels_of p.nodes ≡ [] → length (newest_in p) ≡ count (grammar_of p)
-    → most_nodes p * count (grammar_of p) ≤ length (newest_in p) + length (earlier_in p) → Keeps m p []
-keeps_none m p sealed few nodes labels width places = record {
-  sealed = sealed;
+-- a list without nodes has no rows
+pub keeps_none : {C : Type 0} (m : Model C) (G : Lists C) (v : Nodes) (row rows : List (Option (Work C))) → most_of v ≤ 2048 → nodes_of v ≡ [] → labels_of v ≡ []
+    → length row ≡ count G → most_of v * count G ≤ length row + length rows → Keeps m G v row rows
+keeps_none m G v row rows few nodes labels width places = record {
   few = few;
-  nodes = nodes;
-  labels = labels;
-  listed = record { fits = λ i x e. absurd (none_some x e); below = λ i x e. absurd (none_some x e); once = tt };
+  labels = labels ∙ ap no_labels (sym nodes);
+  listed = subst (Listed G.operators) (sym nodes) (record { fits = λ i x e. absurd (none_some x e); below = λ i x e. absurd (none_some x e); once = tt });
   width = width;
   places = places;
-  newest = λ i t e h. absurd (none_some t e);
-  earlier = λ i t e h. absurd (none_some t e);
+  newest = λ i t e h. absurd (none_some t (ap (λ z. subtree z i) (sym nodes) ∙ e));
+  earlier = λ i t e h. absurd (none_some t (ap (λ z. subtree z i) (sym nodes) ∙ e));
 }

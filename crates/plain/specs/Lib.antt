@@ -1,3 +1,4 @@
 pub mod Birth
 pub mod Rows
+pub mod Keeping
 pub mod Meaning

@@ -1,8 +1,9 @@
 // The rows of nodes in row places, as many places for each node as there are nonterminals.
-ghost use Rattle.std.specs.Prelude.{◌≡◌, ◌+◌, ◌*◌, ◌<◌, ◌≤◌, [], map, length, Some};
+ghost use Rattle.std.specs.Prelude.{◌≡◌, ◌+◌, ◌*◌, ◌<◌, ◌≤◌, map, length, Some, None};
 ghost use Rattle.std.specs.Option.{MatchOption};
 ghost use Rattle.grammar.specs.Views.{rule_of};
 ghost use Rattle.nodes.specs.declared.NodeNumber.{NodeNumber as NumberOf};
+ghost use Rattle.nodes.specs.Meaning.{Kept, Pushed};
 ghost use Rattle.nodes.specs.Views.{node_of};
 ghost use Rattle.label.specs.Views.{rule_number};
 ghost use Rattle.row.specs.Views.{row_in, costs_of};
@@ -11,7 +12,7 @@ ghost use Rattle.plain.specs.Rows.{row_at, rows_under, KidsKept, RowOver, RowMov
 use cost::Cost;
 use grammar::parts::{Rule, RuleNumber};
 use label::kids_over;
-use nodes::{Node, NodeNumber};
+use nodes::{Node, NodeNumber, Nodes};
 use row::{KidRow, Step, Work};
 
 // The row of a node.
@@ -96,31 +97,20 @@ pub(crate) fn kept_rule<C: Cost>(
     rule_at(kept_row(rows, width, Some(node)).places, n)
 }
 
-// The row places: those of the newest node, and those of the nodes before it.
-#[derive(Drop)]
-pub(crate) struct RowPlaces<'a, C> {
-    pub(crate) newest: &'a mut [Option<Work<C>>],
-    pub(crate) earlier: &'a mut [Option<Work<C>>],
-}
-
-impl<'a, C: Cost> RowPlaces<'a, C> {
-    pub(crate) fn none() -> RowPlaces<'a, C>
-        ensures newest { result.newest.now ≡ [] }
-        ensures earlier { result.earlier.now ≡ [] }
-    {
-        RowPlaces {
-            newest: &mut [],
-            earlier: &mut [],
-        }
-    }
-
-    // The newest row goes to its place among the earlier ones, and the row of the node that got the number `number` takes its places.
-    pub(crate) fn with_row(self, rules: &[Rule<C>], number: usize, node: &Node) -> RowPlaces<'a, C>
-        ensures { RowAdded C.Cost.model (map rule_of rules.now) number node.now self.entry.newest.now self.entry.earlier.now result.newest.now result.earlier.now }
-    {
-        let RowPlaces { newest, earlier } = self;
-        move_row(newest, earlier, number);
-        row_over(rules, earlier, node, newest);
-        RowPlaces { newest, earlier }
-    }
+// Appends a node to the list. The newest row goes to its place among the earlier ones, and the row of the new node takes its places.
+pub(crate) fn add_node<C: Cost>(
+    rules: &[Rule<C>],
+    node: Node,
+    nodes: &mut Nodes,
+    newest: &mut [Option<Work<C>>],
+    earlier: &mut [Option<Work<C>>],
+) -> Option<NodeNumber>
+    ensures pushed { Pushed nodes.old (node_of node) None result nodes.new }
+    ensures kept { Kept nodes.old nodes.new }
+    ensures rows { (k : NumberOf) → result ≡ Some k → RowAdded C.Cost.model (map rule_of rules.now) k.0 node newest.old earlier.old newest.new earlier.new }
+{
+    let number = nodes.push(node, None)?;
+    move_row(newest, earlier, number.0);
+    row_over(rules, earlier, &node, newest);
+    Some(number)
 }

@@ -1,5 +1,9 @@
+use Rattle.std.proofs.Common.{refl}
 use Rattle.plain.proofs.Labelling.{plain_started}
 use Rattle.plain.proofs.labeller.PlainLabeller.start.Goals as goal
 
-pub returns : goal.returns
-returns g c μ h = plain_started g.C.Cost.model c.args.self.now μ h c.start.new.self c.start.ensures
+pub returns-clause-emptied : goal.returns-clause-emptied
+returns-clause-emptied g c = record { fixed = record { grammar = refl; most = c.start.ensures.kept.most }; nodes = c.start.ensures.nodes; newest = refl; earlier = refl }
+
+pub returns-clause-means : goal.returns-clause-means
+returns-clause-means g c μ h = plain_started c.args.self.now μ h _ (returns-clause-emptied g c)
