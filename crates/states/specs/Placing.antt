@@ -12,7 +12,7 @@ use Rattle.row.specs.declared.kids.Kids.{Kids}
 use Rattle.row.specs.declared.kids.Kids.TheVariants.{Leaf as KidsLeaf, Unary as KidsUnary, Binary as KidsBinary}
 use Rattle.entries.specs.Walks.{row_place}
 use Rattle.rows.specs.declared.held.Rows.{Rows}
-use Rattle.rows.specs.Meaning.{Holds}
+use Rattle.rows.specs.Meaning.{rows_of}
 use Rattle.states.specs.declared.transition.NodeKey.{NodeKey}
 use Rattle.states.specs.declared.transition.NodeKey.TheVariants.{Leaf, Unary, Binary}
 
@@ -39,7 +39,7 @@ label_answer r = map_ok (λ (l : Label). l.0) r
 
 -- what keeping the row x among the rows held does, where so many may be: a held one is found, and a new one is added at the end or
 -- refused; where nothing is added, the memory stays as it was
-pub record KeepsRow {C : Type 0} (m : Model C) (v : Rows C) (held : List (Row C)) (x : Row C) (most : ℕ) (r : Result ℕ NoRoom) (u : Rows C) : Type 0 where
-  pub known : (i : ℕ) → row_place m held x ≡ Some i → (r ≡ Ok i) × Holds m u held
+pub record KeepsRow {C : Type 0} {gc ge gk : _} (m : Model C) (v : Rows C gc ge gk) (held : List (Row C)) (x : Row C) (most : ℕ) (r : Result ℕ NoRoom) (u : Rows C gc ge gk) : Type 0 where
+  pub known : (i : ℕ) → row_place m held x ≡ Some i → (r ≡ Ok i) × (rows_of u ≡ held)
   pub full : row_place m held x ≡ None → most ≤ length held → (r ≡ Err NoRows) × (u ≡ v)
-  pub new : row_place m held x ≡ None → length held < most → (r ≡ Ok (length held)) × Holds m u (put (same_row m) held x)
+  pub new : row_place m held x ≡ None → length held < most → (r ≡ Ok (length held)) × (rows_of u ≡ put (same_row m) held x)
