@@ -13,7 +13,7 @@ use Rattle.automaton.specs.declared.Automaton.{Automaton}
 use Rattle.automaton.specs.Histories.{History, open_nodes}
 use Rattle.automaton.specs.Meaning.{grammar_of, most_nodes}
 
-module _ {C : Type 0} (a : Automaton C) (h : History) (x : CodeNode) (ops : List OperatorOf) (same : ops ≡ (grammar_of a).operators) where
+module _ {C : Type 0} {gc ge gk : _} (a : Automaton C gc ge gk) (h : History) (x : CodeNode) (ops : List OperatorOf) (same : ops ≡ (grammar_of a).operators) where
   here : (r : Result (Unit {0}) NodeRefusal) → r ≡ check_answer (check_node ops (most_nodes a) (open_nodes h) (node_of x)) → r ≡ check_answer (check_node (grammar_of a).operators (most_nodes a) (open_nodes h) (node_of x))
   here r e = subst (λ z. r ≡ check_answer (check_node z (most_nodes a) (open_nodes h) (node_of x))) same e
 

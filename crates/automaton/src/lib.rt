@@ -30,7 +30,7 @@ use label::{
 use nodes::{Label, Node, NodeKids, NodeNumber, NodePlace, NodeRefusal, Nodes};
 use row::Work;
 use states::{NodeKey, Sizes, States, Transition};
-use table::Slot;
+use table::{Key, Slot};
 
 mod labeller;
 
@@ -57,7 +57,10 @@ pub struct Memory<'a, C> {
 
 /// A labeller that works out a row once for each key.
 #[derive(Drop)]
-pub struct Automaton<'a, C> {
+pub struct Automaton<'a, C: Cost>
+where
+    Entry<C>: Key,
+{
     grammar: &'a Grammar<C>,
     nodes: Nodes<'a>,
     states: States<'a, C>,
