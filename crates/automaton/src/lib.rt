@@ -19,7 +19,7 @@ use label::BirthRefusal;
 use nodes::{Label, Node, NodeNumber, NodePlace, Nodes};
 use row::Work;
 use states::{Sizes, States, Transition};
-use table::Slot;
+use table::{Key, Slot};
 
 mod labeller;
 
@@ -45,7 +45,10 @@ pub struct Memory<'a, C> {
 /// A labeller that works out a row once for each key.
 // What it means is a relation to its history: the nodes of earlier trees, whose rows and keys are held, are in its memory no longer.
 #[derive(Drop)]
-pub struct Automaton<'a, C: Cost> {
+pub struct Automaton<'a, C: Cost>
+where
+    Entry<C>: Key,
+{
     grammar: &'a Grammar<C>,
     nodes: Nodes<'a>,
     states: States<'a, C>,

@@ -1,6 +1,6 @@
 -- What entries and ends say of the rows that they keep.
-use Rattle.std.proofs.Common.{◌≡◌, ℕ, zero, suc, ◌+◌, ◌*◌, ◌≤◌, Bool, true, false, cond, List, [], ◌∷◌, ◌++◌, map, length, Some, None, Option, sym, refl, ap, ◌∙◌, ⊎_elim, add-mul, one-mul, arith}
-use Rattle.std.proofs.lemmas.List.{length-map, length_push, map_push}
+use Rattle.std.proofs.Common.{◌≡◌, ℕ, zero, suc, ◌+◌, ◌*◌, ◌≤◌, Bool, true, false, cond, List, [], ◌∷◌, ◌++◌, map, length, Some, None, Option, sym, refl, ap, ◌∙◌, subst, ⊎_elim, add-mul, one-mul, arith}
+use Rattle.std.proofs.lemmas.List.{append-nil, length-map, length_push, map_push}
 use Rattle.std.proofs.lemmas.Bool.{cases_Bool}
 use Rattle.std.specs.List.{slice_get}
 use Rattle.std.specs.Option.{option_map}
@@ -14,10 +14,10 @@ use Rattle.table.specs.Keys.{place_of}
 use Rattle.entries.specs.declared.Entry.{Entry}
 use Rattle.entries.specs.declared.RowEnd.{RowEnd}
 use Rattle.entries.specs.Keys.{end_key, same_link}
-use Rattle.entries.specs.Walks.{walk, Keeps, row_place}
+use Rattle.entries.specs.Walks.{back, walk, Keeps, row_place, rows_from}
 use Rattle.entries.specs.Laws.{link_own, link_tells}
 use Rattle.entries.proofs.Seen.{seen_first, seen_none}
-use Rattle.entries.proofs.Walking.{walk_once}
+use Rattle.entries.proofs.Walking.{back_walk, walk_once}
 
 -- the end at b
 abbrev pub end_at : Option ℕ → RowEnd
@@ -125,6 +125,26 @@ module _ {C : Type 0} {m : Model C} where
     pub keeps_place : (w : ℕ) (es : List (Entry C)) (ps : List RowEnd) (rows : List (Row C)) → Keeps m w es ps rows → (x : Row C)
         (e : Option ℕ) → length x ≡ w → walk m es None x ≡ Some e → place_of end_key ps (end_at e) ≡ row_place m rows x
     keeps_place w es ps rows h x e i k = places w es x e i k ps rows h.ended h.wide
+
+  module _ (l : Laws m) where
+    ends_rows : (w : ℕ) (es : List (Entry C)) (ps : List RowEnd) (rows : List (Row C)) → map (walk m es None) rows ≡ map (λ p. Some p.0) ps
+        → ((x : Row C) → In x rows → length x ≡ w) → rows_from w es ps ≡ rows
+    ends_rows w es [] [] q wide = refl
+    ends_rows w es [] (y ∷ ys) q wide = absurd (nil_cons _ _ (sym q))
+    ends_rows w es (p ∷ ps) [] q wide = absurd (nil_cons _ _ q)
+    ends_rows w es (p ∷ ps) (y ∷ ys) q wide =
+        let z : w ≡ length y + 0 = omega (arith, wide y (0, refl)) in
+        let first : back es w p.0 [] ≡ y = back_walk l es y w 0 None p.0 [] z (head_is _ _ _ _ q) ∙ append-nil y in
+        let rest = ends_rows w es ps ys (tail_is _ _ _ _ q) (λ x k. wide x (suc k.0, k.1)) in
+        λ t. first t ∷ rest t
+
+    -- the rows kept are those that are read back from the ends
+    pub kept_rows : (w : ℕ) (es : List (Entry C)) (ps : List RowEnd) (rows : List (Row C)) → Keeps m w es ps rows → rows_from w es ps ≡ rows
+    kept_rows w es ps rows h = ends_rows w es ps rows h.ended h.wide
+
+    pub keeps_own : (w : ℕ) (es : List (Entry C)) (ps : List RowEnd) (rows : List (Row C)) → Keeps m w es ps rows
+        → Keeps m w es ps (rows_from w es ps)
+    keeps_own w es ps rows h = subst (Keeps m w es ps) (sym (kept_rows w es ps rows h)) h
 
   -- one row more: the old walks end as before, the new one at the new end, and there are at most w entries more
   pub keeps_more : (w : ℕ) (es fs : List (Entry C)) (ps : List RowEnd) (rows : List (Row C)) → Keeps m w es ps rows → (x : Row C)

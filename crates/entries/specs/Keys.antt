@@ -1,6 +1,6 @@
 -- Entries of rows and ends of rows, as keys of a table.
-use Rattle.std.specs.Prelude.{ℕ, ◌+◌, ◌*◌, ◌%◌, ◌^◌, Bool, true, false, ◌&&◌, Some, None, Option, ◌==◌}
-use Rattle.std.specs.Option.{option_map}
+use Rattle.std.specs.Prelude.{ℕ, ◌+◌, ◌*◌, ◌%◌, ◌^◌, Bool, ◌&&◌, Some, None, Option, ◌==◌}
+use Rattle.std.specs.Option.{option_eq, option_map}
 use Rattle.cost.specs.Model.{Model}
 use Rattle.covers.specs.Held.{same_entry}
 use Rattle.table.specs.Keys.{KeyModel}
@@ -32,10 +32,7 @@ no_end = record { 0 = None }
 
 -- whether two places are the same, where each may be none
 abbrev pub same_link : Option ℕ → Option ℕ → Bool
-same_link None None = true
-same_link None (Some q) = false
-same_link (Some p) None = false
-same_link (Some p) (Some q) = p == q
+same_link a b = option_eq (λ p q. p == q) a b
 
 abbrev pub link_scatter : Option ℕ → ℕ
 link_scatter None = 0

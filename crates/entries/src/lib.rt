@@ -3,13 +3,12 @@
 #![tactic(auto)]
 
 ghost use Rattle.std.specs.Prelude.{◌≡◌};
-ghost use Rattle.entries.specs.Keys.{entry_key, end_key, same_link, link_scatter, same_choice, choice_scatter, no_entry, no_end};
+ghost use Rattle.entries.specs.Keys.{entry_key, end_key, link_scatter, same_choice, choice_scatter, no_entry, no_end};
 ghost use Rattle.entries.specs.Laws.{entry_laws};
 ghost use Rattle.std.proofs.Common.{rules};
 
 use cost::Cost;
 use grammar::parts::RuleNumber;
-use std::cmp::Ordering;
 use table::Key;
 
 /// What stands in a row for a nonterminal that has a cover: the rule chosen, and the cost above the least.
@@ -51,25 +50,11 @@ impl RowEnd {
     }
 }
 
-// Whether two places are the same, where each may be none.
-fn same_link(a: Option<u32>, b: Option<u32>) -> bool
-    ensures { result ≡ same_link a b }
-{
-    match (a, b) {
-        (None, None) => true,
-        (Some(p), Some(q)) => p == q,
-        _ => false,
-    }
-}
-
 // The scatter number of a place, which may be none.
 fn link_scatter(link: Option<u32>) -> u32
     ensures { result ≡ link_scatter link }
 {
-    match link {
-        None => 0,
-        Some(p) => p.wrapping_add(1),
-    }
+    link.map_or(0, |place| place.wrapping_add(1))
 }
 
 // Whether the same stands at two places of rows.
@@ -78,8 +63,7 @@ fn same_choice<C: Cost>(a: &Option<Choice<C>>, b: &Option<Choice<C>>) -> bool
 {
     match (a, b) {
         (None, None) => true,
-        (Some(x), Some(y)) => x.rule.0 == y.rule.0
-            && matches!(x.cost.compare(&y.cost), Ordering::Equal),
+        (Some(x), Some(y)) => x.rule.0 == y.rule.0 && x.cost.compare(&y.cost).is_eq(),
         _ => false,
     }
 }
@@ -88,12 +72,11 @@ fn same_choice<C: Cost>(a: &Option<Choice<C>>, b: &Option<Choice<C>>) -> bool
 fn choice_scatter<C: Cost>(choice: &Option<Choice<C>>) -> u32
     ensures { result ≡ choice_scatter C.Cost.model choice.now }
 {
-    match choice {
-        None => 0,
-        Some(x) => ((x.rule.0 % 65_536) as u32)
+    choice.map_or(0, |x| {
+        ((x.rule.0 % 65_536) as u32)
             .wrapping_mul(3_266_489_917)
-            .wrapping_add(x.cost.weight()),
-    }
+            .wrapping_add(x.cost.weight())
+    })
 }
 
 /// Entries are the same where the same entry is before them and the same stands there.
@@ -103,7 +86,7 @@ impl<C: Cost> Key for Entry<C> {
     ghost laws = { entry_laws C.Cost.laws };
 
     fn same(&self, other: &Entry<C>) -> bool {
-        same_link(self.before, other.before) && same_choice(&self.choice, &other.choice)
+        self.before == other.before && same_choice(&self.choice, &other.choice)
     }
 
     fn scatter(&self) -> u32 {
@@ -120,7 +103,7 @@ impl Key for RowEnd {
     ghost laws = { Prim.search rules };
 
     fn same(&self, other: &RowEnd) -> bool {
-        same_link(self.0, other.0)
+        self.0 == other.0
     }
 
     fn scatter(&self) -> u32 {

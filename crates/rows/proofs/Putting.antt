@@ -1,32 +1,32 @@
 -- What a put of a row does, by what is held.
-use Rattle.std.proofs.Common.{◌≡◌, ℕ, zero, suc, ◌+◌, ◌*◌, ◌/◌, ◌<◌, ◌≤◌, min, Bool, true, false, cond, eqb, ltb, ◌⊎◌, List, [], ◌∷◌, ◌++◌, length, Some, None, Ok, Err, Option, Result, sym, refl, ap, ◌∙◌, subst, ⊎_elim, true≢false, add-mul, one-mul, le-div_iff_mul-le, arith}
+use Rattle.std.proofs.Common.{◌≡◌, ℕ, zero, suc, ◌+◌, ◌*◌, ◌/◌, ◌<◌, ◌≤◌, min, Bool, true, false, cond, eqb, ltb, ◌⊎◌, List, [], ◌∷◌, ◌++◌, length, is_ok, Some, None, Ok, Err, Option, Result, sym, ap, ◌∙◌, subst, ⊎_elim, true≢false, add-mul, one-mul, le-div_iff_mul-le, arith}
 use Rattle.std.proofs.lemmas.Bool.{lt-ltb, le-ltb, eq-eqb, ne_eqb, cases_eq}
 use Rattle.cost.specs.Model.{Model, Laws}
-use Rattle.covers.specs.Held.{same_row}
+use Rattle.covers.specs.Held.{put, same_row}
 use Rattle.covers.specs.Rows.{Row}
 use Rattle.table.specs.declared.Refusal.{Refusal}
 use Rattle.table.specs.declared.Refusal.TheVariants.{Full}
-use Rattle.table.specs.declared.Table.{Table}
-use Rattle.table.specs.Keys.{place_of, put_at, adds_at}
-use Rattle.table.specs.Chains.{Means, Puts, room_of}
+use Rattle.table.specs.Keys.{place_of, put_answer, put_keys, put_at, adds_at}
+use Rattle.table.specs.Tables.{keys_of, room_of}
 use Rattle.table.proofs.Places.{put_new}
 use Rattle.entries.specs.declared.Entry.{Entry}
 use Rattle.entries.specs.declared.RowEnd.{RowEnd}
 use Rattle.entries.specs.Keys.{end_key}
-use Rattle.entries.specs.Walks.{row_place, walk}
-use Rattle.entries.proofs.Seen.{put_seen, put_unseen}
-use Rattle.entries.proofs.Keeping.{end_at, keeps_count, keeps_more, places, map_kept}
+use Rattle.entries.specs.Walks.{Keeps, row_place, rows_from, walk}
+use Rattle.entries.proofs.Seen.{put_unseen}
+use Rattle.entries.proofs.Keeping.{end_at, kept_rows, keeps_count, keeps_more, keeps_own, places, map_kept}
 use Rattle.rows.specs.declared.held.Rows.{Rows}
-use Rattle.rows.specs.Meaning.{Holds, PutsRow, LaysRow, rows_in, rows_room, room_for_row}
+use Rattle.rows.specs.Laying.{LaysRow}
+use Rattle.rows.specs.Meaning.{rows_in, rows_of, rows_room, room_for_row}
 
-module _ {C : Type 0} {m : Model C} (l : Laws m) (v : Rows C) (rows : List (Row C)) (h : Holds m v rows) (x : Row C) where
-  -- the row is held
-  pub puts_held : (i : ℕ) → Some i ≡ row_place m rows x → PutsRow m v rows x (Ok i) v
-  puts_held i e = record {
-    answer = ap (λ o. put_at o (length rows) (room_for_row v x)) e;
-    holds = subst (Holds m v) (sym (put_seen (same_row m) rows x i (sym e))) h;
-    unchanged = λ _. refl;
-  }
+-- what a row that is added does to the entries and ends
+pub record Added {C : Type 0} (m : Model C) (w : ℕ) (rows : List (Row C)) (x : Row C) (fs : List (Entry C)) (ps : List RowEnd) (r : Result ℕ Refusal) : Type 0 where
+  pub answer : r ≡ Ok (length rows)
+  pub keeps : Keeps m w fs ps (rows ++ x ∷ [])
+
+module _ {C : Type 0} {cost ord eq partial_ord key : _} {m : Model C} (l : Laws m) (v : Rows C cost ord eq partial_ord key) (k : Keeps m v.width (keys_of v.entries) (keys_of v.ends) (rows_of v)) (x : Row C) where
+  abbrev pub rows : List (Row C)
+  rows = rows_of v
 
   room_zero : (length x ≡ v.width → ⊥) → room_for_row v x ≡ 0
   room_zero n = ap (λ b. cond b (rows_room v) 0) (ne_eqb (length x) v.width n)
@@ -34,15 +34,12 @@ module _ {C : Type 0} {m : Model C} (l : Laws m) (v : Rows C) (rows : List (Row 
   room_whole : length x ≡ v.width → room_for_row v x ≡ rows_room v
   room_whole e = ap (λ b. cond b (rows_room v) 0) (eq-eqb (length x) v.width e)
 
-  -- it is not, and there is no room for it
-  full : room_for_row v x ≤ length rows → None ≡ row_place m rows x → PutsRow m v rows x (Err Full) v
-  full few e = record {
-    answer = sym (ap (λ b. cond b (Ok (length rows)) (Err Full)) (le-ltb (length rows) (room_for_row v x) few)) ∙ ap (λ o. put_at o (length rows) (room_for_row v x)) e;
-    holds = h;
-    unchanged = λ _. refl;
-  }
+  -- the row is not held, and there is no room for it
+  full : room_for_row v x ≤ length rows → None ≡ row_place m rows x → Err Full ≡ put_at (row_place m rows x) (length rows) (room_for_row v x)
+  full few e =
+      sym (ap (λ b. cond b (Ok (length rows)) (Err Full)) (le-ltb (length rows) (room_for_row v x) few)) ∙ ap (λ o. put_at o (length rows) (room_for_row v x)) e
 
-  pub puts_full : (length x ≡ v.width → ⊥) ⊎ (rows_room v ≤ length rows) → None ≡ row_place m rows x → PutsRow m v rows x (Err Full) v
+  pub puts_full : (length x ≡ v.width → ⊥) ⊎ (rows_room v ≤ length rows) → None ≡ row_place m rows x → Err Full ≡ put_at (row_place m rows x) (length rows) (room_for_row v x)
   puts_full s e =
       full
       (⊎_elim
@@ -79,34 +76,58 @@ module _ {C : Type 0} {m : Model C} (l : Laws m) (v : Rows C) (rows : List (Row 
         omega arith
 
     -- and the entries find place
-    pub entries_room : length h.entries + length x ≤ room_of v.entries
+    pub entries_room : length (keys_of v.entries) + length x ≤ room_of v.entries
     entries_room =
         let a = entries_by (room_of v.ends) (room_of v.entries) v.width few in
-        let b = h.keeps.few in
+        let b = k.few in
         omega arith
 
-    pub puts_new : None ≡ row_place m rows x → (t : Table (Entry C)) (u : Table RowEnd) (end : Option ℕ) → LaysRow m t h.entries x (Ok end) → (r : Result ℕ Refusal) → Puts end_key v.ends h.ends (end_at end) r u → PutsRow m v rows x r record { entries = t; ends = u; width = v.width }
-    puts_new new t u end laid r puts =
+    -- so the entries are not refused
+    pub not_refused : (n : ℕ) → length x ≡ n → (fs : List (Entry C)) (e : Refusal)
+        → (length (keys_of v.entries) + n ≤ room_of v.entries → LaysRow m (keys_of v.entries) fs x (Err e)) → ⊥
+    not_refused n q fs e laid =
+        let s = entries_room in
+        let a = (laid (omega arith)).answer in
+        let z : ◌≡◌ {A = ℕ} 0 1 = cc in
+        omega arith
+
+    -- a row that is not held is added
+    pub added : None ≡ row_place m rows x → (fs : List (Entry C)) (end : Option ℕ) → (n : ℕ) → length x ≡ n
+        → (length (keys_of v.entries) + n ≤ room_of v.entries → LaysRow m (keys_of v.entries) fs x (Ok end)) → (r : Result ℕ Refusal) → r ≡ put_answer end_key (room_of v.ends) (keys_of v.ends) (end_at end)
+        → (ps : List RowEnd) → ps ≡ put_keys end_key (room_of v.ends) (keys_of v.ends) (end_at end) → Added m v.width rows x fs ps r
+    added new fs end n long lays r a ps q =
+        let es = keys_of v.entries in
+        let s = entries_room in
+        let laid = lays (omega arith) in
+        let ends = keys_of v.ends in
         let e : laid.end ≡ end = (let a = laid.answer in cc) in
-        let walked : walk m laid.after None x ≡ Some end = laid.walked ∙ ap (λ z. Some z) e in
-        let kept = map_kept (walk m h.entries None) (walk m laid.after None) laid.grows h.ends rows h.keeps.ended in
-        let absent : place_of end_key h.ends (end_at end) ≡ None = places l v.width laid.after x end wide walked h.ends rows kept h.keeps.wide ∙ sym new in
-        let c = keeps_count v.width h.entries h.ends rows h.keeps in
-        let space : length h.ends < room_of v.ends = (let s = ends_room in omega arith) in
-        let P = put_new end_key (room_of v.ends) h.ends (end_at end) absent space in
-        let answer : r ≡ Ok (length rows) = puts.answer ∙ P.0 ∙ ap (λ z. Ok z) c in
-        let whole = room_whole wide in
-        let test : ltb (length rows) (room_for_row v x) ≡ true = lt-ltb (length rows) (room_for_row v x) (omega arith) in
-        let keeps = keeps_more v.width h.entries laid.after h.ends rows h.keeps x end laid.grows (let f = laid.few in omega arith) wide walked in
-        subst (λ z. PutsRow m v rows x z record { entries = t; ends = u; width = v.width }) (sym answer)
+        let walked : walk m fs None x ≡ Some end = laid.walked ∙ ap (λ z. Some z) e in
+        let kept = map_kept (walk m es None) (walk m fs None) laid.grows ends rows k.ended in
+        let absent : place_of end_key ends (end_at end) ≡ None = places l v.width fs x end wide walked ends rows kept k.wide ∙ sym new in
+        let c = keeps_count v.width es ends rows k in
+        let space : length ends < room_of v.ends = (let s = ends_room in omega arith) in
+        let P = put_new end_key (room_of v.ends) ends (end_at end) absent space in
         record {
-          answer = sym (ap (λ b. cond b (Ok (length rows)) (Err Full)) test) ∙ ap (λ o. put_at o (length rows) (room_for_row v x)) new;
-          holds = subst (Holds m record { entries = t; ends = u; width = v.width }) (sym (put_unseen (same_row m) rows x (sym new))) (record {
-            entries = laid.after;
-            ends = h.ends ++ end_at end ∷ [];
-            entries_mean = laid.means;
-            ends_mean = subst (λ ks. Means end_key u ks) P.2 puts.means;
-            keeps = keeps;
-          });
-          unchanged = λ f. absurd (true≢false (sym test ∙ ap (λ o. adds_at o (length rows) (room_for_row v x)) new ∙ f));
+          answer = a ∙ P.0 ∙ ap (λ z. Ok z) c;
+          keeps = subst (λ z. Keeps m v.width fs z (rows ++ x ∷ [])) (sym (q ∙ P.2)) (keeps_more v.width es fs ends rows k x end laid.grows (let f = laid.few in omega arith) wide walked);
         }
+
+    -- and the call answers and leaves what it should
+    module _ (new : None ≡ row_place m rows x) (fs : List (Entry C)) (ps : List RowEnd) (r : Result ℕ Refusal) (d : Added m v.width rows x fs ps r) where
+      whole : ltb (length rows) (room_for_row v x) ≡ true
+      whole = (let e = room_whole wide in lt-ltb (length rows) (room_for_row v x) (omega arith))
+
+      pub added_answer : r ≡ put_at (row_place m rows x) (length rows) (room_for_row v x)
+      added_answer =
+          d.answer ∙ sym (ap (λ b. cond b (Ok (length rows)) (Err Full)) whole) ∙ ap (λ o. put_at o (length rows) (room_for_row v x)) new
+
+      pub added_rows : rows_from v.width fs ps ≡ cond (is_ok r) (put (same_row m) rows x) rows
+      added_rows =
+          kept_rows l v.width fs ps (rows ++ x ∷ []) d.keeps ∙ sym (put_unseen (same_row m) rows x (sym new))
+          ∙ ap (λ z. cond (is_ok z) (put (same_row m) rows x) rows) (sym d.answer)
+
+      pub added_keeps : Keeps m v.width fs ps (rows_from v.width fs ps)
+      added_keeps = keeps_own l v.width fs ps (rows ++ x ∷ []) d.keeps
+
+      pub added_something : adds_at (row_place m rows x) (length rows) (room_for_row v x) ≡ false → ⊥
+      added_something f = true≢false (sym whole ∙ ap (λ o. adds_at o (length rows) (room_for_row v x)) new ∙ f)

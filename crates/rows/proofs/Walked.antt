@@ -7,7 +7,7 @@ use Rattle.row.specs.Views.{kept_of, row_in}
 use Rattle.row.specs.declared.work.Work.{Work}
 use Rattle.table.specs.declared.Table.{Table}
 use Rattle.table.specs.Keys.{KeyModel, place_of}
-use Rattle.table.specs.Chains.{Means}
+use Rattle.table.specs.Tables.{Means}
 use Rattle.table.proofs.Places.{place_held}
 use Rattle.table.proofs.Meaning.{means_few}
 use Rattle.entries.specs.declared.Entry.{Entry}
@@ -47,7 +47,7 @@ pub row_long : {C : Type 0} (ws : List (Option (Work C))) → length (row_in ws)
 row_long ws = simp length-map
 
 -- a place in a table is named by 32 bits
-pub place_small : {K : Type 0} (k : KeyModel K) (t : Table K) (keys : List K) (x : K) (p : ℕ) → Means k t keys → Some p ≡ place_of k keys x → p < 4294967296
+pub place_small : {K : Type 0} {g : _} (k : KeyModel K) (t : Table K g) (keys : List K) (x : K) (p : ℕ) → Means k t keys → Some p ≡ place_of k keys x → p < 4294967296
 place_small k t keys x p h e =
     let below = (place_held k keys x p (sym e)).0 in
     let few = means_few t keys h in

@@ -1,2 +1,4 @@
+pub mod Stored
+pub mod Laying
 pub mod Meaning
 pub mod Kids

@@ -23,9 +23,6 @@ impl<'a, C: Cost> KidRow for HeldRow<'a, C> {
 
     fn cost_at(&self, n: usize) -> Option<C> {
         let end = self.end?;
-        match choice_back(self.entries, end.0, n, self.width) {
-            Some(x) => Some(x.cost),
-            None => None,
-        }
+        choice_back(self.entries, end.0, n, self.width).map(|choice| choice.cost)
     }
 }

@@ -12,15 +12,14 @@ use Rattle.covers.proofs.Relaxing.{none_some}
 use Rattle.covers.proofs.Nths.{nth_below, nth_front, nth_more}
 use Rattle.label.specs.declared.refusals.NoRoom.{NoRoom}
 use Rattle.label.specs.declared.refusals.NoRoom.TheVariants.{Keys as NoKeys, Rows as NoRows}
-use Rattle.table.specs.declared.Refusal.{Refusal}
 use Rattle.table.specs.declared.Table.{Table}
-use Rattle.table.specs.Keys.{place_of}
-use Rattle.table.specs.Chains.{Means, Puts, room_of}
+use Rattle.table.specs.Keys.{place_of, put_keys}
+use Rattle.table.specs.Tables.{keys_of, room_of}
 use Rattle.table.proofs.Places.{put_new}
 use Rattle.entries.specs.Walks.{row_place}
 use Rattle.entries.proofs.Seen.{put_seen}
 use Rattle.rows.specs.declared.held.Rows.{Rows}
-use Rattle.rows.specs.Meaning.{Holds, rows_room}
+use Rattle.rows.specs.Meaning.{rows_of, rows_room}
 use Rattle.states.specs.declared.states.States.{States}
 use Rattle.applied.specs.declared.Applied.{Applied}
 use Rattle.nodes.specs.declared.Label.{Label}
@@ -52,14 +51,12 @@ accepts_more ts t a h i v e u k = elim (nth_more ts t i v e) [
 smalls_more : (ts : List Tree) (t : Tree) → ((u : Tree) → In u ts → size u ≤ 2048) → size t ≤ 2048 → (u : Tree) → In u (ts ++ t ∷ []) → size u ≤ 2048
 smalls_more ts t h s u k = elim (nth_more ts t k.0 u k.1) [ inl q ↦ h u (k.0, q) | inr q ↦ subst (λ z. size z ≤ 2048) q.1 s ]
 
-module _ {C : Type 0} {m : Model C} (l : Laws m) {G : Lists C} (v : States C) (ts : List Tree) (t : Tree) (k : Knows m G v ts) (next : Next ts t) where
-  knows_next : (u : States C) (ks : List Transition) → Means transition_key u.transitions ks → Leads m G (ts ++ t ∷ []) (map lead_of ks) → Holds m u.rows (rows_held m G (ts ++ t ∷ [])) → u.rows.width ≡ count G → length u.work.now ≡ count G → u.most_keys ≤ room_of u.transitions → u.most_rows ≤ rows_room u.rows → Knows m G u (ts ++ t ∷ [])
-  knows_next u ks a b c d e f g = record {
+module _ {C : Type 0} {cost ord eq partial_ord key : _} {m : Model C} (l : Laws m) {G : Lists C} (v : States C cost ord eq partial_ord key) (ts : List Tree) (t : Tree) (k : Knows m G v ts) (next : Next ts t) where
+  knows_next : (u : States C cost ord eq partial_ord key) → Leads m G (ts ++ t ∷ []) (map lead_of (keys_of u.transitions)) → rows_of u.rows ≡ rows_held m G (ts ++ t ∷ []) → u.rows.width ≡ count G → length u.work.now ≡ count G → u.most_keys ≤ room_of u.transitions → u.most_rows ≤ rows_room u.rows → Knows m G u (ts ++ t ∷ [])
+  knows_next u b c d e f g = record {
     sealed = k.sealed;
     accepts = accepts_more ts t k.accepts next.before;
     small = smalls_more ts t k.small next.small;
-    transitions = ks;
-    keyed = a;
     leads = b;
     rows = c;
     wide = d;
@@ -68,38 +65,38 @@ module _ {C : Type 0} {m : Model C} (l : Laws m) {G : Lists C} (v : States C) (t
     row_room = g;
   }
 
-  gives_none : (w : States C) {r : Result ℕ NoRoom} {j : ℕ} → lack m G v.most_keys v.most_rows ts t ≡ None → label m G (ts ++ t ∷ []) t ≡ j → r ≡ Ok j → Knows m G w (ts ++ t ∷ []) → Gives m G v w ts t r
+  gives_none : (w : States C cost ord eq partial_ord key) {r : Result ℕ NoRoom} {j : ℕ} → lack m G v.most_keys v.most_rows ts t ≡ None → label m G (ts ++ t ∷ []) t ≡ j → r ≡ Ok j → Knows m G w (ts ++ t ∷ []) → Gives m G v w ts t r
   gives_none w {r} e q s h = subst (λ o. GivesBy o m G v w ts t r) (sym e) (s ∙ ap (λ z. Ok z) (sym q), h)
 
-  gives_some : (w : States C) {r : Result ℕ NoRoom} {e : NoRoom} → lack m G v.most_keys v.most_rows ts t ≡ Some e → r ≡ Err e → Knows m G w ts → SameTables v w → Gives m G v w ts t r
+  gives_some : (w : States C cost ord eq partial_ord key) {r : Result ℕ NoRoom} {e : NoRoom} → lack m G v.most_keys v.most_rows ts t ≡ Some e → r ≡ Err e → Knows m G w ts → SameTables v w → Gives m G v w ts t r
   gives_some w {r} q s h k = subst (λ o. GivesBy o m G v w ts t r) (sym q) (s, h, k)
 
   -- the key is held
-  pub gives_known : (i : ℕ) → Some i ≡ led (map lead_of k.transitions) (key m G ts t) → Gives m G v v ts t (Ok i)
+  pub gives_known : (i : ℕ) → Some i ≡ led (map lead_of (keys_of v.transitions)) (key m G ts t) → Gives m G v v ts t (Ok i)
   gives_known i e =
-      let s = step_known l k.sealed v.most_keys v.most_rows ts t next k.accepts k.small (map lead_of k.transitions) k.leads i (sym e) in
-      gives_none v s.room s.labelled refl (knows_next v k.transitions k.keyed s.leads_now (subst (Holds m v.rows) (sym s.rows) k.rows) k.wide k.work k.key_room k.row_room)
+      let s = step_known l k.sealed v.most_keys v.most_rows ts t next k.accepts k.small (map lead_of (keys_of v.transitions)) k.leads i (sym e) in
+      gives_none v s.room s.labelled refl (knows_next v s.leads_now (k.rows ∙ sym s.rows) k.wide k.work k.key_room k.row_room)
 
   -- it is not
-  module _ (nowhere : None ≡ led (map lead_of k.transitions) (key m G ts t)) where
-    pub gives_no_keys : v.most_keys ≤ length k.transitions → Gives m G v v ts t (Err NoKeys)
+  module _ (nowhere : None ≡ led (map lead_of (keys_of v.transitions)) (key m G ts t)) where
+    pub gives_no_keys : v.most_keys ≤ length (keys_of v.transitions) → Gives m G v v ts t (Err NoKeys)
     gives_no_keys few =
-        let long : length (map lead_of k.transitions) ≡ length k.transitions = length-map k.transitions lead_of in
-        gives_some v (step_keys l k.sealed v.most_keys v.most_rows ts t next k.accepts k.small (map lead_of k.transitions) k.leads (sym nowhere) (omega arith)) refl k (record { transitions = refl; rows = refl; most_keys = refl; most_rows = refl })
+        let long : length (map lead_of (keys_of v.transitions)) ≡ length (keys_of v.transitions) = length-map (keys_of v.transitions) lead_of in
+        gives_some v (step_keys l k.sealed v.most_keys v.most_rows ts t next k.accepts k.small (map lead_of (keys_of v.transitions)) k.leads (sym nowhere) (omega arith)) refl k (record { transitions = refl; rows = refl; most_keys = refl; most_rows = refl })
 
-    module _ (few : length k.transitions < v.most_keys) (x : Row C) (is : x ≡ row m G t) (r : Result ℕ NoRoom) (u : Rows C) (keeps : KeepsRow m v.rows (rows_held m G ts) x v.most_rows r u) where
-      fewer : length (map lead_of k.transitions) < v.most_keys
-      fewer = (let long : length (map lead_of k.transitions) ≡ length k.transitions = length-map k.transitions lead_of in omega arith)
+    module _ (few : length (keys_of v.transitions) < v.most_keys) (x : Row C) (is : x ≡ row m G t) (r : Result ℕ NoRoom) (u : Rows C cost ord eq partial_ord key) (keeps : KeepsRow m v.rows (rows_held m G ts) x v.most_rows r u) where
+      fewer : length (map lead_of (keys_of v.transitions)) < v.most_keys
+      fewer = (let long : length (map lead_of (keys_of v.transitions)) ≡ length (keys_of v.transitions) = length-map (keys_of v.transitions) lead_of in omega arith)
 
       abbrev Outcome : Type 0
-      Outcome = ((i : ℕ) × (r ≡ Ok i) × (lack m G v.most_keys v.most_rows ts t ≡ None) × (label m G (ts ++ t ∷ []) t ≡ i) × Holds m u (rows_held m G (ts ++ t ∷ [])) × Leads m G (ts ++ t ∷ []) (map lead_of k.transitions ++ (key m G ts t, i) ∷ []))
+      Outcome = ((i : ℕ) × (r ≡ Ok i) × (lack m G v.most_keys v.most_rows ts t ≡ None) × (label m G (ts ++ t ∷ []) t ≡ i) × (rows_of u ≡ rows_held m G (ts ++ t ∷ [])) × Leads m G (ts ++ t ∷ []) (map lead_of (keys_of v.transitions) ++ (key m G ts t, i) ∷ []))
           ⊎ ((r ≡ Err NoRows) × (lack m G v.most_keys v.most_rows ts t ≡ Some NoRows) × (u ≡ v.rows))
 
       outcome_by : (o : Option ℕ) → row_place m (rows_held m G ts) x ≡ o → Outcome
       outcome_by (Some i) e =
-          let s = step_row_known l k.sealed v.most_keys v.most_rows ts t next k.accepts k.small (map lead_of k.transitions) k.leads (sym nowhere) fewer i (ap (row_place m (rows_held m G ts)) (sym is) ∙ e) in
+          let s = step_row_known l k.sealed v.most_keys v.most_rows ts t next k.accepts k.small (map lead_of (keys_of v.transitions)) k.leads (sym nowhere) fewer i (ap (row_place m (rows_held m G ts)) (sym is) ∙ e) in
           let q = keeps.known i e in
-          inl (i, q.0, s.room, s.labelled, subst (Holds m u) (sym (s.rows ∙ put_held i e)) q.1, s.leads_now)
+          inl (i, q.0, s.room, s.labelled, q.1 ∙ sym (s.rows ∙ put_held i e), s.leads_now)
         where
           put_held : (i : ℕ) → row_place m (rows_held m G ts) x ≡ Some i → put (same_row m) (rows_held m G ts) (row m G t) ≡ rows_held m G ts
           put_held i e = put_seen (same_row m) (rows_held m G ts) (row m G t) i (ap (row_place m (rows_held m G ts)) (sym is) ∙ e)
@@ -107,30 +104,28 @@ module _ {C : Type 0} {m : Model C} (l : Laws m) {G : Lists C} (v : States C) (t
           let unseen = ap (row_place m (rows_held m G ts)) (sym is) ∙ e in
           ⊎_elim
           (λ (h : length (rows_held m G ts) < v.most_rows).
-          let s = step_new l k.sealed v.most_keys v.most_rows ts t next k.accepts k.small (map lead_of k.transitions) k.leads (sym nowhere) fewer unseen h in
+          let s = step_new l k.sealed v.most_keys v.most_rows ts t next k.accepts k.small (map lead_of (keys_of v.transitions)) k.leads (sym nowhere) fewer unseen h in
           let q = keeps.new e h in
-          inl (length (rows_held m G ts), q.0, s.room, s.labelled, subst (Holds m u) (ap (put (same_row m) (rows_held m G ts)) is ∙ sym s.rows) q.1, s.leads_now))
+          inl (length (rows_held m G ts), q.0, s.room, s.labelled, q.1 ∙ ap (put (same_row m) (rows_held m G ts)) is ∙ sym s.rows, s.leads_now))
           (λ (h : v.most_rows ≤ length (rows_held m G ts)).
           let q = keeps.full e h in
-          inr (q.0, step_rows l k.sealed v.most_keys v.most_rows ts t next k.accepts k.small (map lead_of k.transitions) k.leads (sym nowhere) fewer unseen h, q.1))
+          inr (q.0, step_rows l k.sealed v.most_keys v.most_rows ts t next k.accepts k.small (map lead_of (keys_of v.transitions)) k.leads (sym nowhere) fewer unseen h, q.1))
           (cases_lt (length (rows_held m G ts)) v.most_rows)
 
       outcome : Outcome
       outcome = outcome_by (row_place m (rows_held m G ts) x) refl
 
       -- no room for the row
-      pub gives_no_rows : (e : NoRoom) → r ≡ Err e → (w : States C) → w.rows ≡ u → w.transitions ≡ v.transitions → length w.work.now ≡ count G → w.most_keys ≡ v.most_keys → w.most_rows ≡ v.most_rows → Gives m G v w ts t (Err e)
-      gives_no_rows e s w a b c d f = elim outcome [
+      pub gives_no_rows : (e : NoRoom) → r ≡ Err e → (o : Result ℕ NoRoom) → o ≡ Err e → (w : States C cost ord eq partial_ord key) → w.rows ≡ u → w.transitions ≡ v.transitions → length w.work.now ≡ count G → w.most_keys ≡ v.most_keys → w.most_rows ≡ v.most_rows → Gives m G v w ts t o
+      gives_no_rows e s o p w a b c d f = elim outcome [
         | inl q ↦ absurd (let y = sym q.1 ∙ s in let z : ◌≡◌ {A = ℕ} 0 1 = cc in omega arith)
         | inr q ↦
-            gives_some w q.1 (sym s ∙ q.0) (record {
+            gives_some w q.1 (p ∙ sym s ∙ q.0) (record {
               sealed = k.sealed;
               accepts = k.accepts;
               small = k.small;
-              transitions = k.transitions;
-              keyed = subst (λ z. Means transition_key z k.transitions) (sym b) k.keyed;
-              leads = k.leads;
-              rows = subst (λ z. Holds m z (rows_held m G ts)) (sym (a ∙ q.2)) k.rows;
+              leads = subst (λ z. Leads m G ts (map lead_of (keys_of z))) (sym b) k.leads;
+              rows = ap (λ z. rows_of z) (a ∙ q.2) ∙ k.rows;
               wide = ap (λ z. z.width) (a ∙ q.2) ∙ k.wide;
               work = c;
               key_room = (let y = ap (λ z. room_of z) b in let x = k.key_room in omega arith);
@@ -139,16 +134,16 @@ module _ {C : Type 0} {m : Model C} (l : Laws m) {G : Lists C} (v : States C) (t
       ]
 
       -- the row has its label, and the key is added
-      pub gives_added : (i : ℕ) (n : Applied Label) → key_of n ≡ key m G ts t → r ≡ Ok i → (tr : Table Transition) (a : Result ℕ Refusal) → ((keys : List Transition) → Means transition_key v.transitions keys → Puts transition_key v.transitions keys record { key = n; label = record { 0 = i } } a tr) → (w : States C) → w.rows ≡ u → w.transitions ≡ tr → w.rows.width ≡ count G → length w.work.now ≡ count G → w.most_keys ≤ room_of tr → w.most_rows ≤ rows_room w.rows → Gives m G v w ts t (Ok i)
-      gives_added i n is_key s tr a puts w b c d e f g = elim outcome [
+      pub gives_added : (i : ℕ) (n : Applied Label) → key_of n ≡ key m G ts t → r ≡ Ok i → (tr : Table Transition _) → keys_of tr ≡ put_keys transition_key (room_of v.transitions) (keys_of v.transitions) record { key = n; label = record { 0 = i } } → (w : States C cost ord eq partial_ord key) → w.rows ≡ u → w.transitions ≡ tr → w.rows.width ≡ count G → length w.work.now ≡ count G → w.most_keys ≤ room_of tr → w.most_rows ≤ rows_room w.rows → Gives m G v w ts t (Ok i)
+      gives_added i n is_key s tr after w b c d e f g = elim outcome [
         | inl q ↦ (
             let same : q.0 ≡ i = (let y = sym q.1 ∙ s in cc) in
             let new : Transition = record { key = n; label = record { 0 = i } } in
-            let space : length k.transitions < room_of v.transitions = (let h = k.key_room in omega arith) in
-            let P = put_new transition_key (room_of v.transitions) k.transitions new (absent k.transitions new (ap (led (map lead_of k.transitions)) is_key ∙ sym nowhere)) space in
-            let listed : map lead_of (k.transitions ++ new ∷ []) ≡ map lead_of k.transitions ++ (key m G ts t, q.0) ∷ [] = map_push lead_of k.transitions new ∙ (λ j. map lead_of k.transitions ++ (is_key j, sym same j) ∷ []) in
+            let space : length (keys_of v.transitions) < room_of v.transitions = (let h = k.key_room in omega arith) in
+            let P = put_new transition_key (room_of v.transitions) (keys_of v.transitions) new (absent (keys_of v.transitions) new (ap (led (map lead_of (keys_of v.transitions))) is_key ∙ sym nowhere)) space in
+            let listed : map lead_of ((keys_of v.transitions) ++ new ∷ []) ≡ map lead_of (keys_of v.transitions) ++ (key m G ts t, q.0) ∷ [] = map_push lead_of (keys_of v.transitions) new ∙ (λ j. map lead_of (keys_of v.transitions) ++ (is_key j, sym same j) ∷ []) in
             gives_none w q.2 (q.3 ∙ same) refl
-            (knows_next w (k.transitions ++ new ∷ []) (subst (λ z. Means transition_key z (k.transitions ++ new ∷ [])) (sym c) (subst (Means transition_key tr) P.2 (puts k.transitions k.keyed).means)) (subst (Leads m G (ts ++ t ∷ [])) (sym listed) q.5) (subst (λ z. Holds m z (rows_held m G (ts ++ t ∷ []))) (sym b) q.4) d e (let y = ap (λ z. room_of z) c in omega arith) g)
+            (knows_next w (subst (Leads m G (ts ++ t ∷ [])) (sym (ap (λ z. map lead_of (keys_of z)) c ∙ ap (map lead_of) (after ∙ P.2) ∙ listed)) q.5) (ap (λ z. rows_of z) b ∙ q.4) d e (let y = ap (λ z. room_of z) c in omega arith) g)
             )
         | inr q ↦ absurd (let y = sym s ∙ q.0 in let z : ◌≡◌ {A = ℕ} 0 1 = cc in omega arith)
       ]

@@ -1,8 +1,9 @@
 -- The row of a key from the rows of its labels, and how it is kept.
-use Rattle.std.proofs.Common.{◌≡◌, ℕ, ◌<◌, ◌≤◌, cond, List, [], map, length, get_or, Some, None, Ok, Err, Result, unwrap_or, sym, refl, ap, ◌∙◌, arith, Bor}
+use Rattle.std.proofs.Common.{◌≡◌, ℕ, ◌<◌, ◌≤◌, cond, List, [], map, length, get_or, is_ok, Some, None, Ok, Err, Result, unwrap_or, sym, refl, ap, ◌∙◌, arith, Bor}
 use Rattle.std.proofs.lemmas.Bool.{lt-ltb, eq-eqb}
 use Rattle.cost.specs.Model.{Model}
 use Rattle.covers.specs.Rows.{Row, as_rank, as_ranks}
+use Rattle.covers.specs.Held.{put, same_row}
 use Rattle.covers.specs.Trees.{unary, binary}
 use Rattle.covers.proofs.Relaxing.{some_is, none_some}
 use Rattle.row.specs.Views.{applied, costs_of}
@@ -14,7 +15,7 @@ use Rattle.entries.specs.Walks.{row_place}
 use Rattle.rows.specs.declared.held.Rows.{Rows}
 use Rattle.rows.specs.declared.kid.HeldRow.{HeldRow}
 use Rattle.rows.specs.Kids.{row_of}
-use Rattle.rows.specs.Meaning.{Holds, PutsRow, rows_room, room_for_row}
+use Rattle.rows.specs.Meaning.{rows_of, rows_room, room_for_row}
 use Rattle.label.specs.declared.refusals.NoRoom.{NoRoom}
 use Rattle.label.specs.declared.refusals.NoRoom.TheVariants.{Rows as NoRows}
 use Rattle.applied.specs.declared.Applied.{Applied}
@@ -24,11 +25,6 @@ use Rattle.nodes.specs.declared.Label.{Label}
 use Rattle.states.specs.Keys.{key_of}
 use Rattle.states.specs.Leading.{key_rows}
 use Rattle.states.specs.Placing.{KeepsRow}
-
--- the answer of a put, as a label or a refusal
-abbrev pub put_label : Result ℕ Refusal → Result ℕ NoRoom
-put_label (Ok i) = Ok i
-put_label (Err e) = Err NoRows
 
 -- the label that stands for a kid which is not there
 abbrev pub no_label : Label
@@ -40,20 +36,28 @@ kids_ranks held (Leaf o) x y e f = refl
 kids_ranks held (Unary o a) x y e f = ap (unary o.0) (costs_as_ranks (row_of x.now) ∙ ap (map as_rank) e)
 kids_ranks held (Binary o a b) x y e f = (let p = costs_as_ranks (row_of x.now) ∙ ap (map as_rank) e in let q = costs_as_ranks (row_of y.now) ∙ ap (map as_rank) f in λ i. binary o.0 (p i) (q i))
 
-module _ {C : Type 0} (m : Model C) (v : Rows C) (held : List (Row C)) (h : Holds m v held) (x : Row C) (most : ℕ) where
-  clash : {A : Type 0} → (i : ℕ) → row_place m held x ≡ Some i → None ≡ row_place m held x → A
+-- an answer of a put of a row, as that of keeping it
+abbrev pub row_answer : Result ℕ Refusal → Result ℕ NoRoom
+row_answer (Ok i) = Ok i
+row_answer (Err e) = Err NoRows
+
+module _ {C : Type 0} {cost ord eq partial_ord key : _} (m : Model C) (v : Rows C cost ord eq partial_ord key) (x : Row C) (most : ℕ) where
+  abbrev held : List (Row C)
+  held = rows_of v
+
+  clash : {A : Type 0} → (i : ℕ) → row_place m (rows_of v) x ≡ Some i → None ≡ row_place m (rows_of v) x → A
   clash i e n = absurd (none_some i (n ∙ e))
 
   -- the row is held
-  pub keeps_known : (i : ℕ) → Some i ≡ row_place m held x → KeepsRow m v held x most (Ok i) v
+  pub keeps_known : (i : ℕ) → Some i ≡ row_place m (rows_of v) x → KeepsRow m v (rows_of v) x most (Ok i) v
   keeps_known i e = record {
-    known = λ j q. (ap (λ z. Ok z) (some_is i j (e ∙ q)), h);
+    known = λ j q. (ap (λ z. Ok z) (some_is i j (e ∙ q)), refl);
     full = λ q _. clash i (sym e) (sym q);
     new = λ q _. clash i (sym e) (sym q);
   }
 
   -- as many rows are held as may be
-  pub keeps_full : None ≡ row_place m held x → most ≤ length held → KeepsRow m v held x most (Err NoRows) v
+  pub keeps_full : None ≡ row_place m (rows_of v) x → most ≤ length (rows_of v) → KeepsRow m v (rows_of v) x most (Err NoRows) v
   keeps_full n few = record {
     known = λ i q. clash i q n;
     full = λ _ _. (refl, refl);
@@ -61,23 +65,26 @@ module _ {C : Type 0} (m : Model C) (v : Rows C) (held : List (Row C)) (h : Hold
   }
 
   -- a new row is added
-  module _ (n : None ≡ row_place m held x) (wide : length x ≡ v.width) (room : most ≤ rows_room v) (few : length held < most) where
+  module _ (n : None ≡ row_place m (rows_of v) x) (wide : length x ≡ v.width) (room : most ≤ rows_room v) (few : length (rows_of v) < most) where
     whole : room_for_row v x ≡ rows_room v
     whole = ap (λ b. cond b (rows_room v) 0) (eq-eqb (length x) v.width wide)
 
     answer : put_at (row_place m held x) (length held) (room_for_row v x) ≡ Ok (length held)
     answer = ap (λ o. put_at o (length held) (room_for_row v x)) (sym n) ∙ ap (λ b. cond b (Ok (length held)) (Err Full)) (lt-ltb (length held) (room_for_row v x) (let w = whole in omega arith))
 
-    pub keeps_new : (i : ℕ) (u : Rows C) → PutsRow m v held x (Ok i) u → KeepsRow m v held x most (Ok i) u
-    keeps_new i u p = record {
+    keeps_new : (i : ℕ) (u : Rows C cost ord eq partial_ord key) → Ok i ≡ put_at (row_place m (rows_of v) x) (length (rows_of v)) (room_for_row v x)
+        → rows_of u ≡ put (same_row m) (rows_of v) x → KeepsRow m v (rows_of v) x most (Ok i) u
+    keeps_new i u a p = record {
       known = λ j q. clash j q n;
       full = λ _ q. absurd (omega arith);
-      new = λ _ _. (let a = p.answer ∙ answer in let e : i ≡ length held = cc in ap (λ z. Ok z) e, p.holds);
+      new = λ _ _. (let b = a ∙ answer in let e : i ≡ length held = cc in ap (λ z. Ok z) e, p);
     }
 
-    pub keeps_refused : {A : Type 0} (e : Refusal) (u : Rows C) → PutsRow m v held x (Err e) u → A
-    keeps_refused e u p = absurd (let a = p.answer ∙ answer in let z : ◌≡◌ {A = ℕ} 0 1 = cc in omega arith)
+    keeps_refused : {A : Type 0} (e : Refusal) → Err e ≡ put_at (row_place m (rows_of v) x) (length (rows_of v)) (room_for_row v x) → A
+    keeps_refused e a = absurd (let b = a ∙ answer in let z : ◌≡◌ {A = ℕ} 0 1 = cc in omega arith)
 
-    pub keeps_put : (r : Result ℕ Refusal) (u : Rows C) → PutsRow m v held x r u → KeepsRow m v held x most (put_label r) u
-    keeps_put (Ok i) u p = keeps_new i u p
-    keeps_put (Err e) u p = keeps_refused e u p
+    -- a row that is put is added, and is never refused
+    pub keeps_put : (r : Result ℕ Refusal) (u : Rows C cost ord eq partial_ord key) → r ≡ put_at (row_place m (rows_of v) x) (length (rows_of v)) (room_for_row v x)
+        → rows_of u ≡ cond (is_ok r) (put (same_row m) (rows_of v) x) (rows_of v) → KeepsRow m v (rows_of v) x most (row_answer r) u
+    keeps_put (Ok i) u a p = keeps_new i u a p
+    keeps_put (Err e) u a p = keeps_refused e a

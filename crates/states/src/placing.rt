@@ -1,12 +1,12 @@
 // The row of a key, worked out and kept.
-ghost use Rattle.std.specs.Prelude.{◌≡◌, ◌≤◌, List, map, length};
+ghost use Rattle.std.specs.Prelude.{◌≡◌, ◌≤◌, map, length};
 ghost use Rattle.name.specs.Outcomes.{map_ok};
 ghost use Rattle.grammar.specs.Lists.{Lists, Declared};
 ghost use Rattle.grammar.specs.Views.{rule_of};
 ghost use Rattle.covers.specs.Trees.{count};
-ghost use Rattle.covers.specs.Rows.{Row, row_from};
+ghost use Rattle.covers.specs.Rows.{row_from};
 ghost use Rattle.row.specs.Views.{row_in};
-ghost use Rattle.rows.specs.Meaning.{Holds, SameMemory, rows_room};
+ghost use Rattle.rows.specs.Meaning.{SameMemory, rows_of, rows_room};
 ghost use Rattle.states.specs.Keys.{key_of};
 ghost use Rattle.states.specs.Leading.{key_rows};
 ghost use Rattle.states.specs.Placing.{KeepsRow, label_answer};
@@ -26,7 +26,7 @@ pub(crate) fn work_out<C: Cost>(
     key: Applied<Label>,
     work: &mut [Option<Work<C>>],
 )
-    ensures { (G : Lists C) (held : List (Row C)) → Holds C.Cost.model rows.now held → Declared G → G.rules ≡ map rule_of rules.now → count G ≡ length work.old → row_in work.new ≡ row_from C.Cost.model G (key_rows held (key_of key)) }
+    ensures { (G : Lists C) → Declared G → G.rules ≡ map rule_of rules.now → count G ≡ length work.old → row_in work.new ≡ row_from C.Cost.model G (key_rows (rows_of rows.now) (key_of key)) }
 {
     // Where the key has no such label, the row is not looked at.
     let first = rows.row(key.first().unwrap_or(Label(0)).0);
@@ -41,7 +41,7 @@ pub(crate) fn keep_row<C: Cost>(
     work: &[Option<Work<C>>],
     most: usize,
 ) -> Result<Label, NoRoom>
-    ensures keeps { (held : List (Row C)) → Holds C.Cost.model rows.old held → length work.now ≡ rows.old.width → most ≤ rows_room rows.old → KeepsRow C.Cost.model rows.old held (row_in work.now) most (label_answer result) rows.new }
+    ensures keeps { length work.now ≡ rows.old.width → most ≤ rows_room rows.old → KeepsRow C.Cost.model rows.old (rows_of rows.old) (row_in work.now) most (label_answer result) rows.new }
     ensures memory { SameMemory rows.old rows.new }
 {
     if let Some(label) = rows.find(work) {
@@ -50,6 +50,5 @@ pub(crate) fn keep_row<C: Cost>(
     if rows.count() >= most {
         return Err(NoRoom::Rows);
     }
-    let placed = rows.put(work);
-    placed.map(|label| Label(label)).map_err(|_| NoRoom::Rows)
+    rows.put(work).map(Label).map_err(|_| NoRoom::Rows)
 }

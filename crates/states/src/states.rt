@@ -25,11 +25,14 @@ use nodes::Label;
 use row::Work;
 use rows::Rows;
 use std::mem;
-use table::{Slot, Table};
+use table::{Key, Slot, Table};
 
 /// The rows and keys of the nodes accepted since the last clear, in lent memory, and the label that each key leads to.
 #[derive(Drop)]
-pub struct States<'a, C> {
+pub struct States<'a, C: Cost>
+where
+    Entry<C>: Key,
+{
     transitions: Table<'a, Transition>,
     rows: Rows<'a, C>,
     work: &'a mut [Option<Work<C>>],
@@ -86,10 +89,7 @@ impl<'a, C: Cost> States<'a, C> {
         work_out(rules, &self.rows, key, work);
         let placed = keep_row(&mut self.rows, work, most);
         self.work = work;
-        let label = match placed {
-            Ok(label) => label,
-            Err(refusal) => return Err(refusal),
-        };
+        let label = placed?;
         let _ = self.transitions.put(Transition { key, label });
         Ok(label)
     }
@@ -121,9 +121,8 @@ impl<'a, C: Cost> States<'a, C> {
     pub fn choice(&self, label: Label, nonterminal: NonterminalNumber) -> Option<RuleNumber>
         ensures { (G : Lists C) (ts : List Tree) (t : Tree) → Knows C.Cost.model G self.now ts → In t ts → label.0 ≡ label_among C.Cost.model G ts t → rule_number result ≡ chosen_rule C.Cost.model G t nonterminal.0 }
     {
-        match self.rows.entry(label.0, nonterminal.0) {
-            Some(choice) => Some(choice.rule),
-            None => None,
-        }
+        self.rows
+            .entry(label.0, nonterminal.0)
+            .map(|choice| choice.rule)
     }
 }

@@ -1,14 +1,15 @@
 -- A new key linked in at the head of its bucket.
-use Rattle.std.proofs.Common.{◌≡◌, ℕ, ◌+◌, ◌<◌, ◌≤◌, List, [], ◌∷◌, ◌++◌, map, length, get_or, take, set, Some, None, Ok, Err, Option, sym, refl, ap, ◌∙◌, subst, ⊎_elim, arith}
+use Rattle.std.proofs.Common.{◌≡◌, ℕ, ◌+◌, ◌<◌, ◌≤◌, List, [], ◌∷◌, ◌++◌, map, length, get_or, take, set, Some, None, Option, sym, refl, ap, ◌∙◌, subst, ⊎_elim, arith}
 use Rattle.std.proofs.lemmas.List.{length-set, length_push, length-map, length-take-le, get_or_default, get_or-set_same, get_or-set_other, get_or_append_left, get_or_push, get_or-map, get_or-take, map_more, same_lists}
-use Rattle.std.proofs.lemmas.Bool.{both_ways, cases_lt, cases_eq}
-use Rattle.table.specs.declared.Refusal.TheVariants.{Full}
+use Rattle.std.proofs.lemmas.Bool.{cases_lt, cases_eq}
 use Rattle.table.specs.declared.Slot.{Slot}
 use Rattle.table.specs.declared.Table.{Table}
-use Rattle.table.specs.Keys.{KeyModel, Absent, place_of, adds}
-use Rattle.table.specs.Chains.{Newest, Stores, Means, Puts, bucket_of, bucket_in, room_for, room_of, slots_of}
-use Rattle.table.specs.Search.{Gap, Linked}
-use Rattle.table.proofs.Places.{apart_push, place_absent, put_new, put_full}
+use Rattle.table.specs.Keys.{KeyModel, Absent, place_of}
+use Rattle.table.specs.Chains.{Newest, Stores, Chained, bucket_of, room_for}
+use Rattle.table.specs.Links.{Linked}
+use Rattle.table.specs.Tables.{Means, keys_of, room_of, slots_of}
+use Rattle.table.specs.Search.{Gap}
+use Rattle.table.proofs.Places.{apart_push, place_absent}
 use Rattle.table.proofs.Buckets.{bucket_below, room_slots}
 use Rattle.table.proofs.Chains.{key_stored}
 
@@ -127,42 +128,25 @@ module _ {K : Type 0} {m : KeyModel K} {bucket : K → ℕ} (xs ys : List (Slot 
         (cases_lt i (length keys));
   }
 
-module _ {K : Type 0} (m : KeyModel K) (t : Table K) (keys : List K) (k : K) (h : Means m t keys) (none : place_of m keys k ≡ None) where
-  pub puts_full : room_of t ≤ length keys → Puts m t keys k (Err Full) t
-  puts_full l = let e = put_full m (room_of t) keys k none l in record {
-    answer = sym e.0;
-    means = subst (λ ks. Means m t ks) (sym e.2) h;
-    unchanged = λ _. refl;
-  }
+-- The slots store one key more.
+pub chained_put : {K : Type 0} (m : KeyModel K) (xs ys : List (Slot K)) (keys : List K) (k : K) (n i b : ℕ) → Chained m n xs keys
+    → i ≡ n → i < room_for (length xs) → b ≡ bucket_of (m.scatter k) (room_for (length xs)) → place_of m keys k ≡ None
+    → Linked xs i b k ys → Chained m (i + 1) ys (keys ++ k ∷ [])
+chained_put {K} m xs ys keys k n i b h e l q none new =
+    let bucket : ℕ = bucket_of (m.scatter k) (room_for (length xs)) in
+    let room : room_for (length xs) ≡ room_for (length ys) = ap room_for (sym new.size) in
+    let slots = room_slots (length xs) in
+    let below : bucket < length xs = omega (arith, bucket_below (m.scatter k) (room_for (length xs)) (omega arith)) in
+    let at : Linked xs (length keys) bucket k ys =
+    subst (λ z. Linked xs (length keys) z k ys) q (subst (λ z. Linked xs z b k ys) (e ∙ h.count) new) in
+    record {
+      count = ap (λ z. z + 1) (e ∙ h.count) ∙ sym (length_push keys k);
+      few = omega (arith, length_push keys k, h.count);
+      stored = subst (λ r. Stores m (λ x. bucket_of (m.scatter x) r) ys (keys ++ k ∷ [])) room
+          (stores_put xs ys keys k h.stored (omega (arith, h.count)) below at (place_absent m keys k none));
+    }
 
-  means_put : (u : Table K) → length keys < room_of t → u.len ≡ length keys + 1
-      → Linked (slots_of t) (length keys) (bucket_in m t k) k (slots_of u) → Means m u (keys ++ k ∷ [])
-  means_put u l e new =
-      let room : room_of t ≡ room_of u = ap room_for (sym new.size) in
-      let slots = room_slots (length (slots_of t)) in
-      let below : bucket_in m t k < length (slots_of t) = omega (arith, bucket_below (m.scatter k) (room_of t) (omega arith)) in
-      record {
-        count = e ∙ sym (length_push keys k);
-        few = omega (arith, length_push keys k);
-        stored = subst (λ r. Stores m (λ x. bucket_of (m.scatter x) r) (slots_of u) (keys ++ k ∷ [])) room
-            (stores_put (slots_of t) (slots_of u) keys k h.stored (omega arith) below new (place_absent m keys k none));
-      }
-
-  pub puts_new : (u : Table K) (n b : ℕ) → n ≡ length keys → b ≡ bucket_in m t k → length keys < room_of t → u.len ≡ n + 1
-      → Linked (slots_of t) n b k (slots_of u) → Puts m t keys k (Ok n) u
-  puts_new u n b z q l e new = let p = put_new m (room_of t) keys k none l in record {
-    answer = ap (λ i. Ok i) z ∙ sym p.0;
-    means = subst (λ ks. Means m u ks) (sym p.2)
-        (means_put u l (omega arith)
-        (subst (λ i. Linked (slots_of t) i (bucket_in m t k) k (slots_of u)) z (subst (λ i. Linked (slots_of t) n i k (slots_of u)) q new)));
-    unchanged = λ f. absurd (both_ways (adds m (room_of t) keys k) f p.1);
-  }
-
--- A search that ends without the key says what a put needs.
-pub gap_found : {K : Type 0} (m : KeyModel K) (t : Table K) (k : K) (b : ℕ) → b ≡ bucket_in m t k
-    → ((keys : List K) → Means m t keys → place_of m keys k ≡ None) → Gap m t k b
-gap_found m t k b e none = record {
-  bucket = e;
-  below = λ l. omega (arith, bucket_below (m.scatter k) (room_of t) l, room_slots (length (slots_of t)));
-  new = none;
-}
+-- What a table's slots store, once a key that is new is linked in.
+pub table_put : {K : Type 0} {g : _} (m : KeyModel K) (t : Table K g) (h : Means m t (keys_of t)) (ys : List (Slot K)) (k : K) (i b : ℕ)
+    → i ≡ t.len → i < room_of t → Gap m t k b → Linked (slots_of t) i b k ys → Chained m (i + 1) ys (keys_of t ++ k ∷ [])
+table_put m t h ys k i b e l gap new = chained_put m (slots_of t) ys (keys_of t) k t.len i b h e l gap.bucket gap.new new

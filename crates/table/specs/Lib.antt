@@ -1,3 +1,6 @@
 pub mod Keys
+pub mod Memory
 pub mod Chains
+pub mod Links
+pub mod Tables
 pub mod Search

@@ -2,12 +2,13 @@
 
 #![tactic(auto)]
 
-ghost use Rattle.std.specs.Prelude.{◌≡◌, ◌^◌, ◌<◌, ◌≤◌, List, [], map, length, Ok};
+ghost use Rattle.std.specs.Prelude.{◌≡◌, ◌^◌, ◌<◌, ◌≤◌, false, [], ◌∷◌, ◌++◌, map, length};
 ghost use Rattle.std.specs.List.{slice_get};
-ghost use Rattle.std.specs.Option.{option_map};
-ghost use Rattle.table.specs.Keys.{KeyModel, KeyLaws, number_key, place_of, number_of};
-ghost use Rattle.table.specs.Chains.{Chained, Means, Puts, unused, slots_of, room_of, room_for, bucket_of, stored_keys};
-ghost use Rattle.table.specs.Search.{Linked, Steps, Gap, Seeks};
+ghost use Rattle.std.specs.Option.{option_and_then, option_map};
+ghost use Rattle.table.specs.Keys.{KeyModel, KeyLaws, number_key, place_of, put_answer, put_keys, adds, number_of};
+ghost use Rattle.table.specs.Chains.{Chained, Chained-prop, unused, room_for, bucket_of, stored_keys};
+ghost use Rattle.table.specs.Memory.{SameSlice};
+ghost use Rattle.table.specs.Links.{Linked};
 ghost use Rattle.std.proofs.Common.{rules};
 
 /// A type of keys: an equivalence, and a number that same keys share.
@@ -128,26 +129,23 @@ fn link<K: Drop>(slots: &mut [Slot<K>], place: usize, bucket: usize, key: K)
     slots[bucket].head = Some(place as u32);
 }
 
-/// Where a search ends: at the place of the same key, or at the bucket that a new key goes into.
-#[derive(Clone, Copy)]
-enum Sought {
-    Held(usize),
-    New(usize),
-}
-
 /// A list of keys, no two the same, in lent memory. The first `len` slots hold the keys in the order of putting.
+// Slots with links, and a length beside them: the memory is lent, and nothing is allocated.
 #[derive(Drop)]
-pub struct Table<'a, K> {
+pub struct Table<'a, K: Key> {
     slots: &'a mut [Slot<K>],
     len: usize,
+    ghost chained: { Chained K.Key.model len slots.now (stored_keys len slots.now) } by { Chained-prop K.code K.Key.model len slots.now (stored_keys len slots.now) },
 }
 
 impl<'a, K: Key + Drop> Table<'a, K> {
+    ghost use Rattle.table.specs.Tables.{keys_of, room_of, slots_of};
+    ghost use Rattle.table.specs.Search.{Steps, Gap, Seeks};
+
     /// An empty table, with a place for each slot.
     pub fn new(slots: &'a mut [Slot<K>]) -> Table<'a, K>
-        ensures means { Means K.Key.model result [] }
-        ensures length { length (slots_of result) ≡ length slots.old }
-        ensures named { result.slots.ghost_name ≡ slots.entry.ghost_name }
+        ensures keys { keys_of result ≡ [] }
+        ensures memory { SameSlice slots.entry result.slots }
     {
         unlink(slots);
         Table { slots, len: 0 }
@@ -155,9 +153,8 @@ impl<'a, K: Key + Drop> Table<'a, K> {
 
     /// Empties the list.
     pub fn clear(&mut self)
-        ensures means { Means K.Key.model self.new [] }
-        ensures length { length (slots_of self.new) ≡ length (slots_of self.old) }
-        ensures named { self.new.slots.ghost_name ≡ self.old.slots.ghost_name }
+        ensures keys { keys_of self.new ≡ [] }
+        ensures memory { SameSlice self.old.slots self.new.slots }
     {
         unlink(self.slots);
         self.len = 0;
@@ -165,10 +162,10 @@ impl<'a, K: Key + Drop> Table<'a, K> {
 
     /// How many keys the list has.
     pub fn count(&self) -> usize
-        ensures means { (keys : List K) → Means K.Key.model self.now keys → result ≡ length keys }
+        ensures keys { result ≡ length (keys_of self.now) }
         ensures within { result ≤ length (slots_of self.now) }
     {
-        self.len.min(self.slots.len())
+        self.stored_slots().len()
     }
 
     /// How many places there are, free or not.
@@ -182,58 +179,36 @@ impl<'a, K: Key + Drop> Table<'a, K> {
 
     /// The key at a place of the list.
     pub fn key_at(&self, place: usize) -> Option<&K>
-        ensures { (keys : List K) → Means K.Key.model self.now keys → option_map (λ k. k.now) result ≡ slice_get keys place }
+        ensures { option_map (λ k. k.now) result ≡ slice_get (keys_of self.now) place }
     {
-        if place < self.count() {
-            Some(self.stored(place))
-        } else {
-            None
-        }
-    }
-
-    /// The key in a slot that holds one. It speaks of the memory alone, so that a type may say by it what it means.
-    pub fn stored_key(&self, place: usize) -> Option<&K>
-        ensures { option_map (λ k. k.now) result ≡ slice_get (stored_keys self.now) place }
-    {
-        let slots = &*self.slots;
-        if place < self.len && place < slots.len() {
-            Some(&slots[place].key)
-        } else {
-            None
-        }
+        self.stored_slots().get(place).map(Slot::key)
     }
 
     /// The slots that hold the keys of the list, in order.
     pub fn stored_slots(&self) -> &[Slot<K>]
-        ensures { map (λ s. s.key) result.now ≡ stored_keys self.now }
+        ensures { map (λ s. s.key) result.now ≡ keys_of self.now }
     {
         let slots = &*self.slots;
-        if self.len < slots.len() {
-            &slots[..self.len]
-        } else {
-            slots
-        }
+        &slots[..self.len]
     }
 
     /// The place of the same key, or none.
     pub fn find(&self, key: &K) -> Option<usize>
-        ensures { (keys : List K) → Means K.Key.model self.now keys → result ≡ place_of K.Key.model keys key.now }
+        ensures { result ≡ place_of K.Key.model (keys_of self.now) key.now }
     {
-        match self.search(key) {
-            Sought::Held(place) => Some(place),
-            Sought::New(_) => None,
-        }
+        self.search(key).ok()
     }
 
     /// Adds a new key at the end of the list, leaves a held one, and answers its place. Only an added key changes the memory.
     pub fn put(&mut self, key: K) -> Result<usize, Refusal>
-        ensures puts { (keys : List K) → Means K.Key.model self.old keys → Puts K.Key.model self.old keys key result self.new }
-        ensures length { length (slots_of self.new) ≡ length (slots_of self.old) }
-        ensures named { self.new.slots.ghost_name ≡ self.old.slots.ghost_name }
+        ensures answer { result ≡ put_answer K.Key.model (room_of self.old) (keys_of self.old) key }
+        ensures keys { keys_of self.new ≡ put_keys K.Key.model (room_of self.old) (keys_of self.old) key }
+        ensures unchanged { adds K.Key.model (room_of self.old) (keys_of self.old) key ≡ false → self.new ≡ self.old }
+        ensures memory { SameSlice self.old.slots self.new.slots }
     {
         let bucket = match self.search(&key) {
-            Sought::Held(place) => return Ok(place),
-            Sought::New(bucket) => bucket,
+            Ok(held) => return Ok(held),
+            Err(bucket) => bucket,
         };
         let place = self.len;
         if place >= self.room() {
@@ -246,21 +221,18 @@ impl<'a, K: Key + Drop> Table<'a, K> {
     // Adds a new key at the end of the list.
     fn append(&mut self, place: usize, bucket: usize, key: K)
         requires { (place ≡ self.old.len) × ((place < room_of self.old) × (Gap K.Key.model self.old key bucket)) }
-        ensures puts { (keys : List K) → Means K.Key.model self.old keys → Puts K.Key.model self.old keys key (Ok place) self.new }
-        ensures length { length (slots_of self.new) ≡ length (slots_of self.old) }
-        ensures named { self.new.slots.ghost_name ≡ self.old.slots.ghost_name }
+        ensures keys { keys_of self.new ≡ keys_of self.old ++ key ∷ [] }
+        ensures memory { SameSlice self.old.slots self.new.slots }
     {
         link(self.slots, place, bucket, key);
         self.len = place + 1;
     }
 
-    // The key in a slot.
-    fn stored(&self, place: usize) -> &K
-        requires { place < length (slots_of self.now) }
-        ensures { (keys : List K) → Means K.Key.model self.now keys → place < length keys → Some result.now ≡ slice_get keys place }
+    // The newest place of a bucket, or none where there is no such bucket.
+    fn head(&self, bucket: usize) -> Option<u32>
+        ensures { result ≡ option_and_then (λ s. s.head) (slice_get (slots_of self.now) bucket) }
     {
-        let slots = &*self.slots;
-        &slots[place].key
+        self.slots.get(bucket).and_then(|slot| slot.head)
     }
 
     // The link from a slot to the place before it in its bucket.
@@ -272,29 +244,20 @@ impl<'a, K: Key + Drop> Table<'a, K> {
         slots[place].next
     }
 
-    // Goes through the bucket of the key, from the newest place down.
-    fn search(&self, key: &K) -> Sought
+    // Goes through the bucket of the key, from the newest place down: the place of the same key, or the bucket of a new one.
+    fn search(&self, key: &K) -> Result<usize, usize>
         ensures { Seeks K.Key.model self.now key.now result }
     {
         let slots = &*self.slots;
         let bucket = bucket(key.scatter(), self.room());
-        let mut bound = self.count();
-        let mut link = if bucket < slots.len() {
-            slots[bucket].head
-        } else {
-            None
-        };
+        let mut link = self.head(bucket);
         while let Some(place) = link {
             let place = place as usize;
-            if place >= bound {
-                break;
-            }
             if slots[place].key.same(key) {
-                return Sought::Held(place);
+                return Ok(place);
             }
-            bound = place;
             link = self.next(place);
         }
-        Sought::New(bucket)
+        Err(bucket)
     }
 }

@@ -22,14 +22,10 @@ fn put_all(table: &mut Table<u32>, n: u32, stride: u32) -> usize {
 }
 
 // How many of the keys are found.
-fn find_all(table: &Table<u32>, from: u32, to: u32, stride: u32) -> u32 {
-    let mut found: u32 = 0;
-    for i in from..to {
-        if table.find(&i.wrapping_mul(stride)).is_some() {
-            found = found.saturating_add(1);
-        }
-    }
-    found
+fn find_all(table: &Table<u32>, from: u32, to: u32, stride: u32) -> usize {
+    (from..to)
+        .filter(|i| table.find(&i.wrapping_mul(stride)).is_some())
+        .count()
 }
 
 // Nanoseconds for one of n calls since the start.

@@ -2,9 +2,8 @@
 
 #![tactic(auto)]
 
-ghost use Rattle.std.specs.Prelude.{◌≡◌, ℕ, ◌*◌, ◌%◌, ◌^◌, ◌⊎◌, List, IfOk};
-ghost use Rattle.table.specs.Keys.{number_key};
-ghost use Rattle.table.specs.Chains.{Means, room_of};
+ghost use Rattle.std.specs.Prelude.{◌≡◌, ℕ, ◌*◌, ◌%◌, ◌^◌, ◌⊎◌, IfOk};
+ghost use Rattle.table.specs.Tables.{keys_of, room_of};
 ghost use Rattle.table_speed.specs.Speeds.{held_after, with_place, places_sum, speed_sum};
 
 use std::alloc::{AllocError, Global};
@@ -12,7 +11,7 @@ use table::{Slot, Table};
 
 // Puts the keys in order.
 fn put_all(table: &mut Table<u32>, keys: &[u32])
-    ensures { (held : List ℕ) → Means number_key table.old held → Means number_key table.new (held_after (room_of table.old) held keys.now) }
+    ensures { keys_of table.new ≡ held_after (room_of table.old) (keys_of table.old) keys.now }
 {
     for key in keys {
         let _ = table.put(*key);
@@ -23,26 +22,20 @@ fn put_all(table: &mut Table<u32>, keys: &[u32])
 fn with_place(sum: u64, place: Option<usize>) -> u64
     ensures { result ≡ with_place sum place }
 {
-    match place {
-        Some(place) => sum.wrapping_add(place as u64),
-        None => sum,
-    }
+    place.map_or(sum, |place| sum.wrapping_add(place as u64))
 }
 
 // The sum of the places of the keys that are found.
 fn places(table: &Table<u32>, keys: &[u32]) -> u64
-    ensures { (held : List ℕ) → Means number_key table.now held → result ≡ places_sum held keys.now }
+    ensures { result ≡ places_sum (keys_of table.now) keys.now }
 {
-    let mut sum: u64 = 0;
-    for key in keys {
-        sum = with_place(sum, table.find(key));
-    }
-    sum
+    keys.iter()
+        .fold(0, |sum: u64, key| with_place(sum, table.find(key)))
 }
 
 // The same sum, over so many rounds.
 fn rounds_of(table: &Table<u32>, keys: &[u32], rounds: u32) -> u64
-    ensures { (held : List ℕ) → Means number_key table.now held → result ≡ rounds * places_sum held keys.now % 2 ^ 64 }
+    ensures { result ≡ rounds * places_sum (keys_of table.now) keys.now % 2 ^ 64 }
 {
     let mut sum: u64 = 0;
     for round in 0..rounds {

@@ -1,3 +1,4 @@
 pub mod Keys
+pub mod Entering
 pub mod Owner
 pub mod Entries

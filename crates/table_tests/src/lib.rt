@@ -2,23 +2,20 @@
 
 #![tactic(auto)]
 
-ghost use Rattle.std.specs.Prelude.{◌≡◌, ℕ, ◌≤◌, List, [], length};
+ghost use Rattle.std.specs.Prelude.{◌≡◌, ℕ, List, [], is_some};
 ghost use Rattle.cost.specs.Model.{Model};
-ghost use Rattle.table.specs.Keys.{place_of};
-ghost use Rattle.table.specs.Chains.{Means, room_of};
+ghost use Rattle.table.specs.Keys.{place_of, put_keys};
 ghost use Rattle.table_tests.specs.declared.NodeKey.{NodeKey as NodeKeyOf};
-ghost use Rattle.table_tests.specs.declared.Entry.{Entry as EntryOf};
 ghost use Rattle.table_tests.specs.Keys.{node_key, entry_key};
-ghost use Rattle.table_tests.specs.Owner.{Holds, Keeps, Enters, Entered, Kept};
+ghost use Rattle.table_tests.specs.Entering.{enter_answer, entered_labels, entered_nodes, Entered};
 ghost use Rattle.std.proofs.Common.{rules};
 ghost use Rattle.table_tests.specs.Entries.{entry_laws};
 
 use cost::Cost;
-use std::cmp::Ordering;
 use table::{Key, Refusal, Slot, Table};
 
 /// A node's operator and the labels of its kids.
-#[derive(Clone, Copy)]
+#[derive(Clone, Copy, PartialEq, Eq)]
 pub enum NodeKey {
     Leaf(u32),
     Unary(u32, u32),
@@ -31,12 +28,7 @@ impl Key for NodeKey {
     ghost laws = { Prim.search rules };
 
     fn same(&self, other: &NodeKey) -> bool {
-        match (*self, *other) {
-            (NodeKey::Leaf(o), NodeKey::Leaf(p)) => o == p,
-            (NodeKey::Unary(o, a), NodeKey::Unary(p, b)) => o == p && a == b,
-            (NodeKey::Binary(o, a, c), NodeKey::Binary(p, b, d)) => o == p && a == b && c == d,
-            _ => false,
-        }
+        *self == *other
     }
 
     fn scatter(&self) -> u32 {
@@ -63,7 +55,7 @@ impl<C: Cost> Key for Entry<C> {
     ghost laws = { entry_laws C.Cost.model C.Cost.laws };
 
     fn same(&self, other: &Entry<C>) -> bool {
-        self.before == other.before && matches!(self.cost.compare(&other.cost), Ordering::Equal)
+        self.before == other.before && self.cost.compare(&other.cost).is_eq()
     }
 
     fn scatter(&self) -> u32 {
@@ -74,19 +66,26 @@ impl<C: Cost> Key for Entry<C> {
 
 /// Two tables by value, and a lent slice with a label for each node key.
 #[derive(Drop)]
-pub struct Owner<'a, C> {
+pub struct Owner<'a, C: Cost>
+where
+    Entry<C>: Key,
+{
     nodes: Table<'a, NodeKey>,
     entries: Table<'a, Entry<C>>,
     labels: &'a mut [usize],
 }
 
 impl<'a, C: Cost> Owner<'a, C> {
+    ghost use Rattle.table.specs.Tables.{room_of};
+    ghost use Rattle.table_tests.specs.Owner.{nodes_of, entries_of, entry_answer};
+
     pub fn new(
         nodes: &'a mut [Slot<NodeKey>],
         entries: &'a mut [Slot<Entry<C>>],
         labels: &'a mut [usize],
     ) -> Owner<'a, C>
-        ensures { Holds C.Cost.model result [] [] }
+        ensures nodes { nodes_of result ≡ [] }
+        ensures entries { entries_of result ≡ [] }
     {
         Owner {
             nodes: Table::new(nodes),
@@ -96,11 +95,15 @@ impl<'a, C: Cost> Owner<'a, C> {
     }
 
     pub fn enter(&mut self, key: NodeKey, entry: Entry<C>) -> Result<usize, Refusal>
-        ensures enters { (ns : List NodeKeyOf) (es : List (EntryOf C)) → Holds C.Cost.model self.old ns es → Enters C.Cost.model self.old ns es key entry result self.new }
+        ensures answer { result ≡ enter_answer (entry_answer C.Cost.model self.old entry) (room_of self.old.nodes) (nodes_of self.old) key }
+        ensures nodes { nodes_of self.new ≡ entered_nodes (entry_answer C.Cost.model self.old entry) (room_of self.old.nodes) (nodes_of self.old) key }
+        ensures entries { entries_of self.new ≡ put_keys (entry_key C.Cost.model) (room_of self.old.entries) (entries_of self.old) entry }
+        ensures labels { self.new.labels.now ≡ entered_labels (entry_answer C.Cost.model self.old entry) result self.old.labels.now }
         ensures room { room_of self.new.nodes ≡ room_of self.old.nodes }
     {
         let label = self.entries.put(entry)?;
         let place = self.nodes.put(key)?;
+        // Bounds test: the contract of `get_mut` does not say what the slice holds once the label is written.
         if place < self.labels.len() {
             self.labels[place] = label;
         }
@@ -108,13 +111,14 @@ impl<'a, C: Cost> Owner<'a, C> {
     }
 
     pub fn find(&self, key: &NodeKey) -> Option<usize>
-        ensures { (ns : List NodeKeyOf) (es : List (EntryOf C)) → Holds C.Cost.model self.now ns es → result ≡ place_of node_key ns key.now }
+        ensures { result ≡ place_of node_key (nodes_of self.now) key.now }
     {
         self.nodes.find(key)
     }
 
     pub fn clear(&mut self)
-        ensures { Holds C.Cost.model self.new [] [] }
+        ensures nodes { nodes_of self.new ≡ [] }
+        ensures entries { entries_of self.new ≡ [] }
     {
         self.nodes.clear();
         self.entries.clear();
@@ -125,24 +129,27 @@ impl<'a, C: Cost> Owner<'a, C> {
 pub trait Store: Sized {
     type Cost: Cost;
 
-    // The store means this list of node keys.
-    ghost keeps: { Self → List NodeKeyOf → Type 0 };
+    // The list of node keys that the store means.
+    ghost keys: { Self → List NodeKeyOf };
 
     // How many node keys there is room for.
     ghost places: { Self → ℕ };
 
     fn enter(&mut self, key: NodeKey, cost: Self::Cost) -> Result<usize, Refusal>
-        ensures entered { (ns : List NodeKeyOf) → keeps self.old ns → Entered (keeps self.new) (places self.old) ns key result }
+        ensures entered { Entered (places self.old) (keys self.old) key result (keys self.new) }
         ensures places_kept { places self.new ≡ places self.old };
 
     fn find(&self, key: &NodeKey) -> Option<usize>
-        ensures { (ns : List NodeKeyOf) → keeps self.now ns → result ≡ place_of node_key ns key.now };
+        ensures { result ≡ place_of node_key (keys self.now) key.now };
 }
 
 impl<'a, C: Cost> Store for Owner<'a, C> {
+    ghost use Rattle.table.specs.Tables.{room_of};
+    ghost use Rattle.table_tests.specs.Owner.{nodes_of};
+
     type Cost = C;
 
-    ghost keeps = { λ o ns. Keeps C.Cost.model o ns };
+    ghost keys = { λ o. nodes_of o };
 
     ghost places = { λ o. room_of o.nodes };
 
@@ -171,7 +178,7 @@ impl<L: Store> Session<L> {
 
     /// Whether the key has a place now.
     pub fn keep(&mut self, key: NodeKey, cost: L::Cost) -> bool
-        ensures { (ns : List NodeKeyOf) → L.Store.keeps self.old.store ns → Kept (L.Store.keeps self.new.store) ns key result }
+        ensures { result ≡ is_some (place_of node_key (L.Store.keys self.new.store) key) }
     {
         match self.store.enter(key, cost) {
             Ok(_) => true,
@@ -187,7 +194,7 @@ impl<L: Store> Session<L> {
 pub fn first_place(slots: &mut [Slot<u32>], key: u32) -> usize
     ensures { result ≡ 0 }
 {
-    if slots.len() == 0 {
+    if slots.is_empty() {
         return 0;
     }
     let mut table = Table::new(slots);

@@ -1,5 +1,5 @@
-use Rattle.std.proofs.Common.{◌≡◌, ◌+◌, ◌-◌, sym, ap, ◌∙◌, arith}
-use Rattle.rows.specs.Meaning.{keys_in}
+use Rattle.std.proofs.Common.{rules, ◌≡◌, ◌+◌, ◌-◌, sym, ap, ◌∙◌, arith}
+use Rattle.rows.specs.Stored.{keys_in}
 use Rattle.entries.specs.Keys.{stands}
 use Rattle.entries.specs.Walks.{before_of, choice_in}
 use Rattle.rows.proofs.Reading.{spin, spin_more, reads}
@@ -11,8 +11,10 @@ loop-i-preserved g c =
     let w = c.args.width in
     let i = c.loop-i._i in
     let o = c.entry_at-entry.ensures in
-    let p = c.before-place.ensures ∙ ap before_of o in
-    let x = c.choice_in-choice.ensures ∙ ap choice_in o in
+    let before : c.and_then-place.result ≡ before_of c.entry_at-entry.result = search rules in
+    let choice : stands c.and_then-choice.result ≡ choice_in c.entry_at-entry.result = search rules in
+    let p = before ∙ ap before_of o in
+    let x = choice ∙ ap choice_in o in
     (λ t. spin es (w - (i + 1)) (p t) (x t)) ∙ sym (spin_more es w i c.loop-i.place (stands c.loop-i.choice) c.loop-i-test.true) ∙ c.loop-i.invariant
 
 pub returns : goal.returns

@@ -1,5 +1,5 @@
 use Rattle.std.proofs.Common.{◌≡◌, ◌-◌, None}
-use Rattle.rows.specs.Meaning.{keys_in}
+use Rattle.rows.specs.Stored.{keys_in}
 use Rattle.entries.specs.Keys.{stands}
 use Rattle.rows.proofs.Reading.{spin}
 use Rattle.rows.proofs.walks.choice_back.Given as goal

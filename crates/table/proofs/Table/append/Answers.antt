@@ -1,6 +1,7 @@
-use Rattle.std.proofs.Common.{length, refl, ◌∙◌, arith}
+use Rattle.std.proofs.Common.{◌+◌, length, arith}
 use Rattle.table.proofs.Buckets.{room_slots, room_most}
-use Rattle.table.proofs.Links.{puts_new}
+use Rattle.table.proofs.Links.{table_put}
+use Rattle.table.proofs.Meaning.{chained_stored, chained_own}
 use Rattle.table.proofs.Table.append.Goals as goal
 
 pub link-requires : goal.link-requires
@@ -9,11 +10,16 @@ link-requires g c =
     let most = room_most (length c.args.self.now.slots.now) in
     (omega arith, (omega arith, c.requires.1.1.below (omega arith)))
 
-pub returns : goal.returns
-returns g c = record {
-  puts = λ keys h.
-      puts_new g.K.Key.model c.args.self.now keys c.args.key h (c.requires.1.1.new keys h) _ c.args.place c.args.bucket
-      (c.requires.0 ∙ h.count) c.requires.1.1.bucket (omega (arith, h.count)) refl c.link.ensures;
-  length = c.link.ensures.size;
-  named = refl;
-}
+pub invariant_of-self : goal.invariant_of-self
+invariant_of-self g c =
+    let t = c.args.self.now in
+    record {
+      chained = chained_own (c.args.place + 1) c.link.new.slots _
+          (table_put g.K.Key.model t t.chained c.link.new.slots c.args.key c.args.place c.args.bucket c.requires.0 c.requires.1.0 c.requires.1.1 c.link.ensures);
+    }
+
+pub returns-clause-keys : goal.returns-clause-keys
+returns-clause-keys g c =
+    let t = c.args.self.now in
+    chained_stored (c.args.place + 1) c.link.new.slots _
+    (table_put g.K.Key.model t t.chained c.link.new.slots c.args.key c.args.place c.args.bucket c.requires.0 c.requires.1.0 c.requires.1.1 c.link.ensures)

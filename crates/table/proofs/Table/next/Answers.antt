@@ -4,8 +4,8 @@ use Rattle.table.proofs.Chains.{walk_step}
 use Rattle.table.proofs.Table.next.Goals as goal
 
 pub returns : goal.returns
-returns g c keys k bound link d h e w s =
+returns g c k bound link d e w s =
     let m = g.K.Key.model in
     let t = c.args.self.now in
-    walk_step m g.met.K.Key.laws t keys h k bound c.args.place d c.index-slots-place.result
-    (subst (λ x. Walk m t keys k bound x) e w) s
+    walk_step m g.met.K.Key.laws t t.chained k bound c.args.place d c.index-slots-place.result
+    (subst (λ x. Walk m t k bound x) e w) s

@@ -1,21 +1,21 @@
-use Rattle.std.proofs.Common.{◌≡◌, None, ap, ◌∙◌}
+use Rattle.std.proofs.Common.{rules, ◌≡◌, None, ap, ◌∙◌}
 use Rattle.covers.specs.Ranks.{at}
-use Rattle.table.specs.Chains.{stored_keys}
+use Rattle.table.specs.Tables.{keys_of}
 use Rattle.entries.specs.Keys.{stands}
-use Rattle.rows.specs.Meaning.{row_back, stored_row}
-use Rattle.rows.proofs.Reading.{stored_is}
+use Rattle.rows.specs.Stored.{row_back}
+use Rattle.rows.proofs.Reading.{row_stored}
 use Rattle.rows.proofs.held.Rows.entry.Goals as goal
 
-pub returns-in-Some : goal.returns-in-Some
-returns-in-Some g c =
+pub returns-in_err-end : goal.returns-in_err-end
+returns-in_err-end g c =
     let v = c.args.self.now in
-    let n = c.args.n in
-    let read : stands c.choice_back.result ≡ at (stored_row v c.args.label) n = c.choice_back.ensures ∙ (λ i. at (row_back (c.stored_slots.ensures i) v.width (c.in-Some.ensures i)) n) in
-    record { stored = read; means = λ rows h. read ∙ ap (λ x. at x n) (stored_is g.met.C.Cost.laws v rows h c.args.label) }
+    let es = keys_of v.entries in
+    let none : stands c.from_residual.result ≡ None = search rules in
+    none ∙ ap (λ o. at (row_back es v.width o) c.args.n) c.in_err-end.ensures
+    ∙ ap (λ x. at x c.args.n) (row_stored v.width es (keys_of v.ends) c.args.label)
 
-pub returns-in-None : goal.returns-in-None
-returns-in-None g c =
+pub returns : goal.returns
+returns g c =
     let v = c.args.self.now in
-    let n = c.args.n in
-    let read : None ≡ at (stored_row v c.args.label) n = ap (λ o. at (row_back (stored_keys v.entries) v.width o) n) c.in-None.ensures in
-    record { stored = read; means = λ rows h. read ∙ ap (λ x. at x n) (stored_is g.met.C.Cost.laws v rows h c.args.label) }
+    c.choice_back.ensures ∙ (λ i. at (row_back (c.stored_slots.ensures i) v.width (c.in_ok-end.ensures i)) c.args.n)
+    ∙ ap (λ x. at x c.args.n) (row_stored v.width (keys_of v.entries) (keys_of v.ends) c.args.label)
