@@ -39,13 +39,6 @@ nil_cons : {A : Type 0} (x : A) (xs : List A) → [] ≡ x ∷ xs → ⊥
 nil_cons x xs e = let z : ◌≡◌ {A = ℕ} 0 1 = cc in omega arith
 
 module _ {C : Type 0} where
-  label_row : (f : Row C → Option (Option ℕ)) (ps : List RowEnd) (rows : List (Row C)) → map f rows ≡ map (λ e. Some e.0) ps
-      → (i : ℕ) (e : RowEnd) → slice_get ps i ≡ Some e → (x : Row C) × (slice_get rows i ≡ Some x) × (f x ≡ Some e.0)
-  label_row f [] rows q i e h = absurd (none_some e h)
-  label_row f (p ∷ ps) [] q i e h = absurd (nil_cons _ _ q)
-  label_row f (p ∷ ps) (y ∷ ys) q zero e h = (y, refl, head_is _ _ _ _ q ∙ ap (λ (z : RowEnd). Some z.0) (some_is p e h))
-  label_row f (p ∷ ps) (y ∷ ys) q (suc i) e h = label_row f ps ys (tail_is _ _ _ _ q) i e h
-
   row_end : (f : Row C → Option (Option ℕ)) (ps : List RowEnd) (rows : List (Row C)) → map f rows ≡ map (λ e. Some e.0) ps
       → (y : Row C) (i : ℕ) → slice_get rows i ≡ Some y → (e : RowEnd) × (f y ≡ Some e.0)
   row_end f ps [] q y i h = absurd (none_some y h)
@@ -71,14 +64,6 @@ module _ {C : Type 0} {m : Model C} where
   pub keeps_count : (w : ℕ) (es : List (Entry C)) (ps : List RowEnd) (rows : List (Row C)) → Keeps m w es ps rows → length ps ≡ length rows
   keeps_count w es ps rows h =
       sym (length-map ps (λ e. Some e.0)) ∙ ap length (sym h.ended) ∙ length-map rows (walk m es None)
-
-  -- the row of a label: its walk ends at the end of that place
-  pub keeps_label : (w : ℕ) (es : List (Entry C)) (ps : List RowEnd) (rows : List (Row C)) → Keeps m w es ps rows
-      → (i : ℕ) (e : RowEnd) → slice_get ps i ≡ Some e
-      → (x : Row C) × (slice_get rows i ≡ Some x) × (walk m es None x ≡ Some e.0) × (length x ≡ w)
-  keeps_label w es ps rows h i e k =
-      let r = label_row (walk m es None) ps rows h.ended i e k in
-      (r.0, r.1, r.2, h.wide r.0 (i, r.1))
 
   module _ (l : Laws m) where
     unlike : (y x : Row C) → (y ≡ x → ⊥) → same_row m y x ≡ false

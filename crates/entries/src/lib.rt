@@ -61,6 +61,7 @@ fn link_scatter(link: Option<u32>) -> u32
 fn same_choice<C: Cost>(a: &Option<Choice<C>>, b: &Option<Choice<C>>) -> bool
     ensures { result ≡ same_choice C.Cost.model a.now b.now }
 {
+    // One match: an equality on `Choice` would have to state and prove laws of its own.
     match (a, b) {
         (None, None) => true,
         (Some(x), Some(y)) => x.rule.0 == y.rule.0 && x.cost.compare(&y.cost).is_eq(),

@@ -73,6 +73,7 @@ impl<'a, C: Cost> Rows<'a, C> {
     {
         let rows = self.ends.room();
         let entries = self.entries.room();
+        // A test for 0: `checked_div` with `map_or` would say the same in more words.
         if self.width == 0 {
             rows
         } else {

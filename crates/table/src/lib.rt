@@ -63,6 +63,7 @@ impl Refusal {
 
 /// One place of the lent memory: the key of this place, the newest place of the bucket of this number, and the place before
 /// this one in the bucket of this key.
+// Links between slots: the memory is lent, and nothing is allocated.
 #[derive(Clone, Copy, Drop)]
 pub struct Slot<K> {
     key: K,
@@ -130,7 +131,7 @@ fn link<K: Drop>(slots: &mut [Slot<K>], place: usize, bucket: usize, key: K)
 }
 
 /// A list of keys, no two the same, in lent memory. The first `len` slots hold the keys in the order of putting.
-// Slots with links, and a length beside them: the memory is lent, and nothing is allocated.
+// A slice with a length beside it: the memory is lent, and nothing is allocated.
 #[derive(Drop)]
 pub struct Table<'a, K: Key> {
     slots: &'a mut [Slot<K>],
