@@ -6,7 +6,6 @@ use Rattle.covers.specs.Trees.{count}
 use Rattle.covers.specs.Nodes.{Node}
 use Rattle.nodes.specs.Meaning.{most_of, nodes_of}
 use Rattle.nodes.specs.declared.NodeRefusal.{NodeRefusal}
-use Rattle.row.specs.declared.work.Work.{Work}
 use Rattle.label.specs.Meaning.{Meaning}
 use Rattle.label.specs.declared.refusals.BirthRefusal.{BirthRefusal}
 use Rattle.label.specs.declared.refusals.AddRefusal.{AddRefusal}
@@ -25,13 +24,6 @@ most_nodes p = most_of p.nodes
 -- the nodes of the open tree
 abbrev pub open_nodes : {C : Type 0} {cost ord eq partial_ord : _} → Plain C cost ord eq partial_ord → List Node
 open_nodes p = nodes_of p.nodes
-
--- its row places: those of the newest node, and those of the nodes before it
-abbrev pub newest_in : {C : Type 0} {cost ord eq partial_ord : _} → Plain C cost ord eq partial_ord → List (Option (Work C))
-newest_in p = p.newest.now
-
-abbrev pub earlier_in : {C : Type 0} {cost ord eq partial_ord : _} → Plain C cost ord eq partial_ord → List (Option (Work C))
-earlier_in p = p.earlier.now
 
 -- what a birth answers, over the grammar G, for trees of up to most nodes, with so many node places and row places: a refusal exactly
 -- where there is a reason for one, and else a labeller without nodes

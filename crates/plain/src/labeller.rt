@@ -126,6 +126,7 @@ impl<'a, C: Cost> Labeller for Plain<'a, C> {
         ensures means { (μ : Meaning C) → PlainMeans self.now μ → rule_number result ≡ choice_at C.Cost.model μ node.0 nonterminal.0 }
         ensures nodes { rule_number result ≡ choice_of C.Cost.model (grammar_of self.now) (subtree (open_nodes self.now) node.0) nonterminal.0 }
     {
+        // How many nodes there are from this one on: one where it is the newest.
         let from_here = self.count().checked_sub(node.0)?;
         match from_here {
             0 => None,

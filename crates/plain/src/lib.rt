@@ -23,7 +23,7 @@ pub struct Plain<'a, C: Cost> {
     nodes: Nodes<'a>,
     newest: &'a mut [Option<Work<C>>],
     earlier: &'a mut [Option<Work<C>>],
-    ghost keeps: { Keeps C.Cost.model (grammar_lists grammar.now) nodes newest.now earlier.now } by { keeps_once C.code C.Cost.model (grammar_lists grammar.now) nodes newest.now earlier.now },
+    pub ghost keeps: { Keeps C.Cost.model (grammar_lists grammar.now) nodes newest.now earlier.now } by { keeps_once C.code C.Cost.model (grammar_lists grammar.now) nodes newest.now earlier.now },
 }
 
 impl<'a, C: Cost> Plain<'a, C> {

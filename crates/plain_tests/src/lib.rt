@@ -2,10 +2,14 @@
 
 #![tactic(auto)]
 
-ghost use Rattle.std.specs.Prelude.{◌≡◌};
+ghost use Rattle.std.specs.Prelude.{◌≡◌, ℕ, ◌+◌, length, Some};
 ghost use Rattle.label.specs.Meaning.{Meaning};
+ghost use Rattle.plain.specs.Meaning.{open_nodes};
 
+use cost::Cost;
 use label::Labeller;
+use nodes::Node;
+use plain::Plain;
 
 /// A labeller that has just been started has no nodes, whatever it is.
 pub fn nodes_after_start<L: Labeller>(labeller: &mut L) -> usize
@@ -13,6 +17,23 @@ pub fn nodes_after_start<L: Labeller>(labeller: &mut L) -> usize
 {
     labeller.start();
     labeller.count()
+}
+
+/// A plain labeller that has just been cleared has no nodes: for a caller who knows the type this needs no meaning at entry.
+pub fn nodes_after_clear<C: Cost>(labeller: &mut Plain<C>) -> usize
+    ensures { result ≡ 0 }
+{
+    Plain::clear(labeller);
+    labeller.count()
+}
+
+/// The number of an added node is the count of the nodes before it, and then there is one more.
+pub fn add_counted<C: Cost>(labeller: &mut Plain<C>, node: Node) -> Option<usize>
+    ensures number { (n : ℕ) → result ≡ Some n → n ≡ length (open_nodes labeller.old) }
+    ensures more { (n : ℕ) → result ≡ Some n → length (open_nodes labeller.new) ≡ n + 1 }
+{
+    let added = labeller.add(node).ok()?;
+    Some(added.number.0)
 }
 
 #[cfg(test)]
@@ -24,8 +45,7 @@ mod tests {
     use grammar::grammar::Grammar;
     use grammar::parts::{KidNames, NonterminalNumber, OperatorNumber};
     use name::Name;
-    use nodes::{Node, NodeNumber, NodePlace};
-    use plain::Plain;
+    use nodes::{NodeNumber, NodePlace};
     use row::Work;
     use std::alloc::Global;
     use std::test::Fail;
