@@ -1,7 +1,7 @@
 -- What an automaton means, by all that was asked of it.
 use Rattle.std.specs.Prelude.{◌≡◌, ℕ, ◌≤◌, List, [], ◌∷◌, ◌++◌, length, Some, None, Ok, Err, Option, Result}
 use Rattle.cost.specs.Model.{Model}
-use Rattle.grammar.specs.Lists.{Lists, Sealed}
+use Rattle.grammar.specs.Lists.{Lists}
 use Rattle.grammar.specs.Meaning.{grammar_lists}
 use Rattle.covers.specs.Trees.{Tree, count}
 use Rattle.covers.specs.Ranks.{at}
@@ -82,7 +82,7 @@ pub record AddsTo {C : Type 0} {cost ord eq partial_ord keyed : _} (m : Model C)
 -- born with these capacities for this grammar, or refused
 abbrev pub Born : {C : Type 0} {cost ord eq partial_ord keyed : _} → Model C → Lists C → Capacities → Lengths → Result (Automaton C cost ord eq partial_ord keyed) BirthRefusal → Type 0
 Born m G c x (Err e) = birth c (count G) x ≡ Some e
-Born m G c x (Ok a) = (birth c (count G) x ≡ None) × (grammar_of a ≡ G) × (most_nodes a ≡ c.nodes) × (most_keys a ≡ c.keys) × (most_rows a ≡ c.rows) × (Sealed m G → Lived m a [])
+Born m G c x (Ok a) = (birth c (count G) x ≡ None) × (grammar_of a ≡ G) × (most_nodes a ≡ c.nodes) × (most_keys a ≡ c.keys) × (most_rows a ≡ c.rows) × Lived m a []
 
 -- as a labeller: what its history says
 pub record AutomatonMeans {C : Type 0} {cost ord eq partial_ord keyed : _} (m : Model C) (a : Automaton C cost ord eq partial_ord keyed) (μ : Meaning C) : Type 0 where

@@ -47,7 +47,7 @@ impl Key for u32 {
 #[derive(Clone, Copy, PartialEq, Eq, Debug)]
 pub enum Refusal {
     /// The key is new and no place is free.
-    Full,
+    Full = 35,
 }
 
 impl Refusal {
@@ -55,9 +55,7 @@ impl Refusal {
     pub fn number(self) -> u8
         ensures { result ≡ number_of self }
     {
-        match self {
-            Refusal::Full => 35,
-        }
+        self as u8
     }
 }
 

@@ -42,12 +42,12 @@ returns g c =
       most,
       c.new-2.ensures.keys,
       c.new-2.ensures.rows,
-      λ sealed. record {
+      record {
         few = (let a = r.nodes in omega arith);
         nodes = c.new.ensures.nodes;
         labels = c.new.ensures.labels;
         listed = record { fits = λ i x e. absurd (none_some x e); below = λ i x e. absurd (none_some x e); once = tt };
         opens = λ i t e. absurd (none_some t e);
-        knows = c.new-2.ensures.knows G sealed (sym wide) f.work keys (rows_fit (length c.args.memory.labels.now) (length c.args.memory.rows.now) caps.rows n f.labels f.rows r.rows narrow);
+        knows = c.new-2.ensures.knows G c.declarations.ensures.sealed (sym wide) f.work keys (rows_fit (length c.args.memory.labels.now) (length c.args.memory.rows.now) caps.rows n f.labels f.rows r.rows narrow);
       },
     )
