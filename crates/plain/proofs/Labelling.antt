@@ -6,7 +6,7 @@ use Rattle.covers.specs.Nodes.{Node, subtree}
 use Rattle.covers.specs.Ranks.{at}
 use Rattle.nodes.specs.declared.NodeRefusal.{NodeRefusal}
 use Rattle.nodes.specs.Checks.{check_node}
-use Rattle.label.specs.Meaning.{Meaning, Started, Cleared, Appended, Adds, AddsBy, by_room, refusal, choice_of, choice_at}
+use Rattle.label.specs.Meaning.{Meaning, Started, Appended, Adds, AddsBy, by_room, refusal, choice_of, choice_at}
 use Rattle.label.specs.declared.refusals.AddRefusal.{AddRefusal}
 use Rattle.plain.specs.declared.Plain.{Plain}
 use Rattle.plain.specs.Keeping.{no_labels}
@@ -32,13 +32,6 @@ module _ {C : Type 0} {cost ord eq partial_ord : _} (p : Plain C cost ord eq par
   plain_started q e = (
     emptied,
     record { fixed = record { grammar = refl; most = refl }; nodes = refl; labels = refl; rows = refl; keys = refl },
-    empty_means q e,
-  )
-
-  pub plain_cleared : (q : Plain C cost ord eq partial_ord) → Emptied p q → (ν : Meaning C) × Cleared μ ν × PlainMeans q ν
-  plain_cleared q e = (
-    emptied,
-    record { fixed = record { grammar = refl; most = refl }; nodes = refl; labels = refl; rows = means.rows; keys = means.keys },
     empty_means q e,
   )
 

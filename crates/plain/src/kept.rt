@@ -47,8 +47,10 @@ fn kept_row<C: Cost>(rows: &[Option<Work<C>>], width: usize, node: Option<NodeNu
     ensures { (k : NumberOf) → node ≡ Some k → k.0 * width + width ≤ length rows.now → row_in result.places.now ≡ row_at rows.now width k.0 }
 {
     let start = node.and_then(|k| start_of(rows.len(), width, k.0));
-    let places = start.map_or(&rows[..0], |start| &rows[start..start + width]);
-    KeptRow { places }
+    let places = start.map(|start| &rows[start..start + width]);
+    KeptRow {
+        places: places.unwrap_or(&[]),
+    }
 }
 
 // The row of a node from the rows of its kids, into as many places as there are nonterminals.
@@ -98,6 +100,7 @@ pub(crate) fn kept_rule<C: Cost>(
 }
 
 // Appends a node to the list. The newest row goes to its place among the earlier ones, and the row of the new node takes its places.
+// One call for all three parts, since of every labeller the newest row is that of the last node.
 pub(crate) fn add_node<C: Cost>(
     rules: &[Rule<C>],
     node: Node,

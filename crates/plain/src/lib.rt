@@ -17,6 +17,7 @@ mod labeller;
 
 /// A labeller that keeps each node's own row, with the least costs themselves, in lent row places. It gives no labels. The row of the
 /// newest node stands in places of its own, so that it can be worked out from the rows of the nodes before it.
+// Lent slices of places, one row after another: the labeller allocates nothing.
 #[derive(Drop)]
 pub struct Plain<'a, C: Cost> {
     grammar: &'a Grammar<C>,
