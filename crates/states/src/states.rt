@@ -24,7 +24,6 @@ use label::NoRoom;
 use nodes::Label;
 use row::Work;
 use rows::Rows;
-use std::mem;
 use table::{Key, Slot, Table};
 
 /// The rows and keys of the nodes accepted since the last clear, in lent memory, and the label that each key leads to.
@@ -84,12 +83,9 @@ impl<'a, C: Cost> States<'a, C> {
         if self.transitions.count() >= self.most_keys {
             return Err(NoRoom::Keys);
         }
-        let most = self.most_rows;
-        let work = mem::replace(&mut self.work, &mut []);
+        let work = &mut *self.work;
         work_out(rules, &self.rows, key, work);
-        let placed = keep_row(&mut self.rows, work, most);
-        self.work = work;
-        let label = placed?;
+        let label = keep_row(&mut self.rows, work, self.most_rows)?;
         let _ = self.transitions.put(Transition { key, label });
         Ok(label)
     }

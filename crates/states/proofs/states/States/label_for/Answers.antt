@@ -32,13 +32,13 @@ returns-in_err-label-clause-gives g c = λ G ts t k e n q.
     let held = rows_of v.rows in
     let nowhere = c.in_default.ensures ∙ ap (led (map lead_of (keys_of v.transitions))) q in
     let few : length (keys_of v.transitions) < v.most_keys = (let h = c.count.ensures.keys in omega arith) in
-    let before : length c.replace-work.result.now ≡ count G = ap (λ r. length r.now) c.replace-work.ensures.value ∙ k.work in
+    let before : length v.work.now ≡ count G = k.work in
     let long : length c.work_out.new.work ≡ count G = c.work_out.auto.work ∙ before in
     let is : row_in c.work_out.new.work ≡ row m G t = c.work_out.ensures G k.sealed.declared e (sym before) ∙ ap (λ z. row_from m G (key_rows held z)) q ∙ ap (λ z. row_from m G (key_rows z (key m G ts t))) k.rows ∙ sym (row_by_key l k.sealed ts t n.small n.before) in
-    let keeps = subst (λ z. KeepsRow m v.rows z (row_in c.work_out.new.work) v.most_rows (label_answer c.keep_row-placed.result) c.keep_row-placed.new.rows) k.rows (c.keep_row-placed.ensures.keeps (long ∙ sym k.wide) k.row_room) in
-    let refused : label_answer c.keep_row-placed.result ≡ Err c.in_err-label.field-0.0 = ap label_answer c.in_err-label.was in
+    let keeps = subst (λ z. KeepsRow m v.rows z (row_in c.work_out.new.work) v.most_rows (label_answer c.keep_row.result) c.keep_row.new.rows) k.rows (c.keep_row.ensures.keeps (long ∙ sym k.wide) k.row_room) in
+    let refused : label_answer c.keep_row.result ≡ Err c.in_err-label.field-0.0 = ap label_answer c.in_err-label.was in
     let answer : label_answer c.from_residual.result ≡ Err c.in_err-label.field-0.0 = search rules in
-    gives_no_rows l v ts t k n nowhere few (row_in c.work_out.new.work) is _ c.keep_row-placed.new.rows keeps c.in_err-label.field-0.0 refused _ answer _ refl refl long refl refl
+    gives_no_rows l v ts t k n nowhere few (row_in c.work_out.new.work) is _ c.keep_row.new.rows keeps c.in_err-label.field-0.0 refused _ answer _ refl refl long refl refl
 
 pub returns-clause-gives : goal.returns-clause-gives
 returns-clause-gives g c = λ G ts t k e n q.
@@ -48,12 +48,12 @@ returns-clause-gives g c = λ G ts t k e n q.
     let held = rows_of v.rows in
     let nowhere = c.in_default.ensures ∙ ap (led (map lead_of (keys_of v.transitions))) q in
     let few : length (keys_of v.transitions) < v.most_keys = (let h = c.count.ensures.keys in omega arith) in
-    let before : length c.replace-work.result.now ≡ count G = ap (λ r. length r.now) c.replace-work.ensures.value ∙ k.work in
+    let before : length v.work.now ≡ count G = k.work in
     let long : length c.work_out.new.work ≡ count G = c.work_out.auto.work ∙ before in
     let is : row_in c.work_out.new.work ≡ row m G t = c.work_out.ensures G k.sealed.declared e (sym before) ∙ ap (λ z. row_from m G (key_rows held z)) q ∙ ap (λ z. row_from m G (key_rows z (key m G ts t))) k.rows ∙ sym (row_by_key l k.sealed ts t n.small n.before) in
-    let keeps = subst (λ z. KeepsRow m v.rows z (row_in c.work_out.new.work) v.most_rows (label_answer c.keep_row-placed.result) c.keep_row-placed.new.rows) k.rows (c.keep_row-placed.ensures.keeps (long ∙ sym k.wide) k.row_room) in
-    let memory = c.keep_row-placed.ensures.memory in
+    let keeps = subst (λ z. KeepsRow m v.rows z (row_in c.work_out.new.work) v.most_rows (label_answer c.keep_row.result) c.keep_row.new.rows) k.rows (c.keep_row.ensures.keeps (long ∙ sym k.wide) k.row_room) in
+    let memory = c.keep_row.ensures.memory in
     let keys : room_of c.put.new.self ≡ room_of v.transitions = ap room_for c.put.ensures.memory.length in
-    let rows : rows_room c.keep_row-placed.new.rows ≡ rows_room v.rows = (λ i. rows_in (room_for (memory.ends.length i)) (room_for (memory.entries.length i)) (memory.width i)) in
-    let kept : label_answer c.keep_row-placed.result ≡ Ok c.in_ok-label.label.0 = ap label_answer c.in_ok-label.was in
-    gives_added l v ts t k n nowhere few (row_in c.work_out.new.work) is _ c.keep_row-placed.new.rows keeps c.in_ok-label.label.0 c.args.key q kept c.put.new.self c.put.ensures.keys _ refl refl (memory.width ∙ k.wide) long (let h = k.key_room in omega arith) (let h = k.row_room in omega arith)
+    let rows : rows_room c.keep_row.new.rows ≡ rows_room v.rows = (λ i. rows_in (room_for (memory.ends.length i)) (room_for (memory.entries.length i)) (memory.width i)) in
+    let kept : label_answer c.keep_row.result ≡ Ok c.in_ok-label.label.0 = ap label_answer c.in_ok-label.was in
+    gives_added l v ts t k n nowhere few (row_in c.work_out.new.work) is _ c.keep_row.new.rows keeps c.in_ok-label.label.0 c.args.key q kept c.put.new.self c.put.ensures.keys _ refl refl (memory.width ∙ k.wide) long (let h = k.key_room in omega arith) (let h = k.row_room in omega arith)
