@@ -32,6 +32,14 @@ impl<'a> Lines<'a> {
             reader: LineReader::new(text, b'\n'),
         }
     }
+
+    // The reader of what is left.
+    pub fn into_reader(self) -> LineReader<'a>
+        ensures { numbered (next_place result) (to_come result) ≡ self.entry }
+    {
+        let reader = self.reader;
+        reader
+    }
 }
 
 // The parts that a reader has yet to hand out, as lines.
