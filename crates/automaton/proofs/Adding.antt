@@ -28,7 +28,7 @@ use Rattle.automaton.specs.Meaning.{grammar_of, most_nodes, most_keys, most_rows
 use Rattle.automaton.proofs.Living.{trees_more, new_tree_some, kid_stands, key_is, labels_more, opens_more}
 
 -- a refused node leaves all as it was
-lived_refused : {C : Type 0} {cost ord eq partial_ord keyed : _} (m : Model C) (a : Automaton C cost ord eq partial_ord keyed) (h : History) (x : Node) → Lived m a h → Lived m a (refused x ∷ h)
+lived_refused : {C : Type 0} {cost eq keyed : _} (m : Model C) (a : Automaton C cost eq keyed) (h : History) (x : Node) → Lived m a h → Lived m a (refused x ∷ h)
 lived_refused m a h x l = record { few = l.few; nodes = l.nodes; labels = l.labels; listed = l.listed; opens = l.opens; knows = l.knows }
 
 not_both : (e : AddRefusal) (p : ℕ × Option ℕ) → ◌≡◌ {A = Result (ℕ × Option ℕ) AddRefusal} (Err e) (Ok p) → ⊥
@@ -37,7 +37,7 @@ not_both e p w = (let z : ◌≡◌ {A = ℕ} 0 1 = cc in omega arith)
 second_of : (p q : ℕ × Option ℕ) → ◌≡◌ {A = Result (ℕ × Option ℕ) AddRefusal} (Ok p) (Ok q) → p.1 ≡ q.1
 second_of p q w = (let s : p ≡ q = cc in ap (λ z. z.1) s)
 
-module _ {C : Type 0} {cost ord eq partial_ord keyed : _} {m : Model C} (laws : Laws m) (a : Automaton C cost ord eq partial_ord keyed) (h : History) (lived : Lived m a h) (x : Node) where
+module _ {C : Type 0} {cost eq keyed : _} {m : Model C} (laws : Laws m) (a : Automaton C cost eq keyed) (h : History) (lived : Lived m a h) (x : Node) where
   abbrev G : Lists C
   G = grammar_of a
 
@@ -94,11 +94,11 @@ module _ {C : Type 0} {cost ord eq partial_ord keyed : _} {m : Model C} (laws : 
     refusal_is = (λ i. by_room (passed i) (lack_of m G (most_keys a) (most_rows a) (accepted h) (is_tree i)))
 
     -- there is no room for it
-    no_room_by : (e : NoRoom) (u : States C cost ord eq partial_ord keyed) (o : Option NoRoom) → lack m G (most_keys a) (most_rows a) (accepted h) tree_of.0 ≡ o → GivesBy o m G a.states u (accepted h) tree_of.0 (Err e) → (lack m G (most_keys a) (most_rows a) (accepted h) tree_of.0 ≡ Some e) × Knows m G u (accepted h) × SameTables a.states u
+    no_room_by : (e : NoRoom) (u : States C cost eq keyed) (o : Option NoRoom) → lack m G (most_keys a) (most_rows a) (accepted h) tree_of.0 ≡ o → GivesBy o m G a.states u (accepted h) tree_of.0 (Err e) → (lack m G (most_keys a) (most_rows a) (accepted h) tree_of.0 ≡ Some e) × Knows m G u (accepted h) × SameTables a.states u
     no_room_by e u None q g = absurd (let w = g.0 in let z : ◌≡◌ {A = ℕ} 0 1 = cc in omega arith)
     no_room_by e u (Some f) q g = (q ∙ (let w = g.0 in let z : f ≡ e = cc in ap (λ y. Some y) z), g.1, g.2)
 
-    pub adds_no_room : (e : NoRoom) (b : Automaton C cost ord eq partial_ord keyed) → b.grammar ≡ a.grammar → b.nodes ≡ a.nodes → Gives m G a.states b.states (accepted h) tree_of.0 (Err e) → (r : Result (ℕ × Option ℕ) AddRefusal) → r ≡ Err (Room e) → AddsTo m a h x r b
+    pub adds_no_room : (e : NoRoom) (b : Automaton C cost eq keyed) → b.grammar ≡ a.grammar → b.nodes ≡ a.nodes → Gives m G a.states b.states (accepted h) tree_of.0 (Err e) → (r : Result (ℕ × Option ℕ) AddRefusal) → r ≡ Err (Room e) → AddsTo m a h x r b
     adds_no_room e b same-grammar same_nodes g r q =
         let k = no_room_by e b.states (lack m G (most_keys a) (most_rows a) (accepted h) tree_of.0) refl g in
         let lists : grammar_of b ≡ grammar_of a = ap (λ z. grammar_lists z.now) same-grammar in
@@ -118,7 +118,7 @@ module _ {C : Type 0} {cost ord eq partial_ord keyed : _} {m : Model C} (laws : 
         })
 
     -- there is
-    room_by : (j : ℕ) (u : States C cost ord eq partial_ord keyed) (o : Option NoRoom) → lack m G (most_keys a) (most_rows a) (accepted h) tree_of.0 ≡ o → GivesBy o m G a.states u (accepted h) tree_of.0 (Ok j) → (lack m G (most_keys a) (most_rows a) (accepted h) tree_of.0 ≡ None) × (j ≡ label m G (accepted h ++ tree_of.0 ∷ []) tree_of.0) × Knows m G u (accepted h ++ tree_of.0 ∷ [])
+    room_by : (j : ℕ) (u : States C cost eq keyed) (o : Option NoRoom) → lack m G (most_keys a) (most_rows a) (accepted h) tree_of.0 ≡ o → GivesBy o m G a.states u (accepted h) tree_of.0 (Ok j) → (lack m G (most_keys a) (most_rows a) (accepted h) tree_of.0 ≡ None) × (j ≡ label m G (accepted h ++ tree_of.0 ∷ []) tree_of.0) × Knows m G u (accepted h ++ tree_of.0 ∷ [])
     room_by j u None q g = (q, (let w = g.0 in cc), g.1)
     room_by j u (Some f) q g = absurd (let w = g.0 in let z : ◌≡◌ {A = ℕ} 0 1 = cc in omega arith)
 
@@ -139,7 +139,7 @@ module _ {C : Type 0} {cost ord eq partial_ord keyed : _} {m : Model C} (laws : 
         pushed_more a.nodes v x l o (omega arith)
         (subst (λ z. Below (length z) (kids x.top)) (sym lived.nodes) (checked_below G.operators (most_nodes a) ns x passed)) p
 
-    pub adds_more : (j : ℕ) (b : Automaton C cost ord eq partial_ord keyed) → b.grammar ≡ a.grammar → most_nodes b ≡ most_nodes a → Gives m G a.states b.states (accepted h) tree_of.0 (Ok j) → (o : Option NodeNumber) → Appended a.nodes x (Some j) o b.nodes → (r : Result (ℕ × Option ℕ) AddRefusal) → r ≡ Ok (length (open_nodes h), Some j) → AddsTo m a h x r b
+    pub adds_more : (j : ℕ) (b : Automaton C cost eq keyed) → b.grammar ≡ a.grammar → most_nodes b ≡ most_nodes a → Gives m G a.states b.states (accepted h) tree_of.0 (Ok j) → (o : Option NodeNumber) → Appended a.nodes x (Some j) o b.nodes → (r : Result (ℕ × Option ℕ) AddRefusal) → r ≡ Ok (length (open_nodes h), Some j) → AddsTo m a h x r b
     adds_more j b same-grammar most g o p r q =
         let k = room_by j b.states (lack m G (most_keys a) (most_rows a) (accepted h) tree_of.0) refl g in
         let lists : grammar_of b ≡ grammar_of a = ap (λ z. grammar_lists z.now) same-grammar in

@@ -14,7 +14,7 @@ use Rattle.automaton.specs.declared.Automaton.{Automaton}
 use Rattle.automaton.specs.Histories.{History, open_nodes}
 use Rattle.automaton.specs.Meaning.{grammar_of, most_nodes}
 
-module _ {C : Type 0} {cost ord eq partial_ord keyed : _} (a : Automaton C cost ord eq partial_ord keyed) (h : History) (x : CodeNode) (ops : List OperatorOf) (same : ops ≡ (grammar_of a).operators) (nodes : nodes_of a.nodes ≡ open_nodes h) where
+module _ {C : Type 0} {cost eq keyed : _} (a : Automaton C cost eq keyed) (h : History) (x : CodeNode) (ops : List OperatorOf) (same : ops ≡ (grammar_of a).operators) (nodes : nodes_of a.nodes ≡ open_nodes h) where
   abbrev checked : Option NodeRefusal
   checked = check_node (grammar_of a).operators (most_nodes a) (open_nodes h) (node_of x)
 

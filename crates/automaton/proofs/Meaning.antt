@@ -13,7 +13,7 @@ use Rattle.automaton.specs.Histories.{History, started, cleared, added, refused,
 use Rattle.automaton.specs.Meaning.{grammar_of, most_nodes, most_keys, most_rows, Lived, Fixed, AddsTo, refusal_after, answer_by, label_then, AutomatonMeans}
 
 -- what a history says
-abbrev pub told : {C : Type 0} {cost ord eq partial_ord keyed : _} → Model C → Automaton C cost ord eq partial_ord keyed → History → Meaning C
+abbrev pub told : {C : Type 0} {cost eq keyed : _} → Model C → Automaton C cost eq keyed → History → Meaning C
 told m a h = record {
   grammar = grammar_of a;
   most = most_nodes a;
@@ -24,10 +24,10 @@ told m a h = record {
   room = room_after m (grammar_of a) (most_keys a) (most_rows a) h;
 }
 
-told_means : {C : Type 0} {cost ord eq partial_ord keyed : _} (m : Model C) (a : Automaton C cost ord eq partial_ord keyed) (h : History) → Lived m a h → AutomatonMeans m a (told m a h)
+told_means : {C : Type 0} {cost eq keyed : _} (m : Model C) (a : Automaton C cost eq keyed) (h : History) → Lived m a h → AutomatonMeans m a (told m a h)
 told_means m a h l = record { history = h; lived = l; grammar = refl; most = refl; nodes = refl; labels = refl; rows = refl; keys = refl; room = λ x. refl }
 
-module _ {C : Type 0} {cost ord eq partial_ord keyed : _} (m : Model C) (a : Automaton C cost ord eq partial_ord keyed) (μ : Meaning C) (means : AutomatonMeans m a μ) where
+module _ {C : Type 0} {cost eq keyed : _} (m : Model C) (a : Automaton C cost eq keyed) (μ : Meaning C) (means : AutomatonMeans m a μ) where
   pub automaton_sound : Sound m μ
   automaton_sound =
       let l = means.lived in
@@ -40,7 +40,7 @@ module _ {C : Type 0} {cost ord eq partial_ord keyed : _} (m : Model C) (a : Aut
         labelled = ap length means.labels ∙ ap length (sym l.labels) ∙ labels_count a.nodes ∙ ap length l.nodes ∙ ap length (sym means.nodes);
       }
 
-  pub automaton_started : (b : Automaton C cost ord eq partial_ord keyed) → Fixed a b → ((h : History) → Lived m a h → Lived m b (started ∷ h)) → (ν : Meaning C) × Started μ ν × AutomatonMeans m b ν
+  pub automaton_started : (b : Automaton C cost eq keyed) → Fixed a b → ((h : History) → Lived m a h → Lived m b (started ∷ h)) → (ν : Meaning C) × Started μ ν × AutomatonMeans m b ν
   automaton_started b f next =
       let h = means.history in (
         told m b (started ∷ h),
@@ -54,7 +54,7 @@ module _ {C : Type 0} {cost ord eq partial_ord keyed : _} (m : Model C) (a : Aut
         told_means m b (started ∷ h) (next h means.lived),
       )
 
-  pub automaton_cleared : (b : Automaton C cost ord eq partial_ord keyed) → Fixed a b → ((h : History) → Lived m a h → Lived m b (cleared ∷ h)) → (ν : Meaning C) × Cleared μ ν × AutomatonMeans m b ν
+  pub automaton_cleared : (b : Automaton C cost eq keyed) → Fixed a b → ((h : History) → Lived m a h → Lived m b (cleared ∷ h)) → (ν : Meaning C) × Cleared μ ν × AutomatonMeans m b ν
   automaton_cleared b f next =
       let h = means.history in (
         told m b (cleared ∷ h),
@@ -64,7 +64,7 @@ module _ {C : Type 0} {cost ord eq partial_ord keyed : _} (m : Model C) (a : Aut
 
   -- ---- one more node
 
-  module _ (b : Automaton C cost ord eq partial_ord keyed) (fixed : Fixed a b) (x : Node) where
+  module _ (b : Automaton C cost eq keyed) (fixed : Fixed a b) (x : Node) where
     same_refusal : refusal μ x ≡ refusal_after m a means.history x
     same_refusal = (λ i. by_room (check_node (means.grammar i).operators (means.most i) (means.nodes i) x) (means.room x i))
 

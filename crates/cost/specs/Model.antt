@@ -1,5 +1,5 @@
 -- What a make of cost is, and the laws that each make keeps.
-use Rattle.std.specs.Prelude.{◌≡◌, ℕ, ◌+◌, ◌≤◌}
+use Rattle.std.specs.Prelude.{◌≡◌, ℕ, ◌+◌, ◌≤◌, Bool, Decides}
 use Rattle.std.specs.declared.cmp.Ordering.TheVariants.{Less, Equal}
 use Rattle.std.specs.declared.cmp.Ordering.{Ordering}
 use Rattle.std.specs.Ordering.{ordering_reverse}
@@ -42,3 +42,7 @@ pub record Laws {C : Type 0} (m : Model C) : Type 0 where
   pub sum_weight : (a b : C) → m.weight a + m.weight b ≤ limit → m.weight (m.sum a b) ≤ m.weight a + m.weight b
   -- so does a - b
   pub diff_weight : (a b : C) → m.weight a + m.weight b ≤ limit → m.weight (m.diff a b) ≤ m.weight a + m.weight b
+
+-- equals a b r says that `==` may answer r of a and b: then r is true exactly where a and b are equal
+abbrev pub Exact : {C : Type 0} → (C → C → Bool → Type 0) → Type 0
+Exact {C} equals = (a b : C) (r : Bool) → equals a b r → Decides r (a ≡ b)

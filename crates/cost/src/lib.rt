@@ -2,18 +2,19 @@
 
 #![tactic(auto)]
 
-ghost use Rattle.std.specs.Prelude.{◌≡◌, ℕ, ◌+◌, ◌^◌, ◌≤◌, Decides};
-ghost use Rattle.cost.specs.Model.{Model, Laws};
+ghost use Rattle.std.specs.Prelude.{◌≡◌, ℕ, ◌+◌, ◌^◌, ◌≤◌};
+ghost use Rattle.cost.specs.Model.{Model, Laws, Exact};
 ghost use Rattle.cost.specs.Counts.{count_model};
 ghost use Rattle.cost.specs.Pairs.{pair_model};
 ghost use Rattle.cost.specs.CountLaws.{count_laws};
 ghost use Rattle.cost.specs.PairLaws.{pair_laws};
+ghost use Rattle.cost.specs.Exacts.{exact_pair};
 ghost use Rattle.std.proofs.Common.{rules};
 
 use std::cmp::Ordering;
 
 // A make of cost: values that are added, subtracted, compared and weighed.
-pub trait Cost: Copy + Ord {
+pub trait Cost: Copy + Eq {
     // What each method computes, as one record of functions.
     ghost model: { Model Self };
 
@@ -30,11 +31,8 @@ pub trait Cost: Copy + Ord {
         ensures { result ≡ model.diff self other };
 
     // `Less` where `self` is before `other`, `Equal` where they are the same, else `Greater`.
-    final fn compare(&self, other: &Self) -> Ordering
-        ensures { result ≡ model.cmp self.now other.now }
-    {
-        self.cmp(other)
-    }
+    fn compare(&self, other: &Self) -> Ordering
+        ensures { result ≡ model.cmp self.now other.now };
 
     // The size of the cost. That it is at most 2^31 is a clause and not a law, since a law speaks
     // of all integers, and not only of those that fit their type.
@@ -45,11 +43,8 @@ pub trait Cost: Copy + Ord {
     // What each make proves of its model.
     ghost laws: { Laws model };
 
-    // The order of the type is that of its model.
-    ghost ordered: { Self.cmp ≡ model.cmp };
-
     // `==` answers true exactly where the two costs are equal.
-    ghost exact: { (a b : Self) → Decides (Self.eq a b) (a ≡ b) };
+    ghost exact: { Exact (λ x y r. r ≡ Self.eq x y) };
 }
 
 // A cost of one number, as bytes. It weighs its absolute value.
@@ -62,8 +57,6 @@ impl Cost for Count {
     ghost model = { count_model };
 
     ghost laws = { count_laws };
-
-    ghost ordered = { Prim.search rules };
 
     ghost exact = { Prim.search rules };
 
@@ -85,13 +78,16 @@ impl Cost for Count {
         }
     }
 
+    fn compare(&self, other: &Count) -> Ordering {
+        self.cmp(other)
+    }
+
     fn weight(&self) -> u32 {
         self.value.unsigned_abs()
     }
 }
 
-// A cost of two parts, as cycles and then bytes. The second parts decide the order only where the
-// first are the same. It weighs what its heavier part weighs.
+// A cost of two parts, as cycles and then bytes. It weighs what its heavier part weighs.
 #[derive(Clone, Copy, Debug, PartialEq, Eq, PartialOrd, Ord)]
 pub struct Pair<A, B> {
     pub first: A,
@@ -103,9 +99,7 @@ impl<A: Cost, B: Cost> Cost for Pair<A, B> {
 
     ghost laws = { pair_laws A.Cost.laws B.Cost.laws };
 
-    ghost ordered = { Prim.search rules };
-
-    ghost exact = { Prim.search rules };
+    ghost exact = { exact_pair A.Cost.exact B.Cost.exact };
 
     fn zero() -> Pair<A, B> {
         Pair {
@@ -126,6 +120,12 @@ impl<A: Cost, B: Cost> Cost for Pair<A, B> {
             first: self.first.diff(other.first),
             second: self.second.diff(other.second),
         }
+    }
+
+    // The second parts decide only where the first are the same.
+    fn compare(&self, other: &Pair<A, B>) -> Ordering {
+        let first = self.first.compare(&other.first);
+        first.then(self.second.compare(&other.second))
     }
 
     fn weight(&self) -> u32 {

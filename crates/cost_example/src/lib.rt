@@ -24,8 +24,6 @@ impl Cost for Energy {
 
     ghost laws = { energy_laws };
 
-    ghost ordered = { Prim.search rules };
-
     ghost exact = { Prim.search rules };
 
     fn zero() -> Energy {
@@ -42,6 +40,10 @@ impl Cost for Energy {
         Energy {
             units: self.units.saturating_sub(other.units),
         }
+    }
+
+    fn compare(&self, other: &Energy) -> Ordering {
+        self.cmp(other)
     }
 
     fn weight(&self) -> u32 {

@@ -10,7 +10,7 @@ use Rattle.grammar.specs.declared.declarations.Declarations.{Declarations}
 use Rattle.grammar.proofs.Fitting.{declared}
 
 module _ {C : Type 0} where
-  declarations_fit : (d : Declarations C) → Declared (declared_lists d)
+  pub declarations_fit : (d : Declarations C) → Declared (declared_lists d)
   declarations_fit d =
       let o = length-map (vec_items d.operators) operator_of in
       let n = length-map (vec_items d.nonterminals) nonterminal_of in

@@ -12,12 +12,12 @@ use Rattle.plain.specs.declared.Plain.{Plain}
 use Rattle.plain.specs.Keeping.{no_labels}
 use Rattle.plain.specs.Meaning.{grammar_of, most_nodes, open_nodes, Fixed, Emptied, PlainMeans, AddsPlain}
 
-module _ {C : Type 0} {cost ord eq partial_ord : _} (p : Plain C cost ord eq partial_ord) (μ : Meaning C) (means : PlainMeans p μ) where
+module _ {C : Type 0} {cost eq : _} (p : Plain C cost eq) (μ : Meaning C) (means : PlainMeans p μ) where
   -- without nodes
   abbrev emptied : Meaning C
   emptied = record { grammar = μ.grammar; most = μ.most; nodes = []; labels = []; rows = μ.rows; keys = μ.keys; room = μ.room }
 
-  empty_means : (q : Plain C cost ord eq partial_ord) → Emptied p q → PlainMeans q emptied
+  empty_means : (q : Plain C cost eq) → Emptied p q → PlainMeans q emptied
   empty_means q e = record {
     grammar = means.grammar ∙ sym e.fixed.grammar;
     most = means.most ∙ sym e.fixed.most;
@@ -28,7 +28,7 @@ module _ {C : Type 0} {cost ord eq partial_ord : _} (p : Plain C cost ord eq par
     room = means.room;
   }
 
-  pub plain_started : (q : Plain C cost ord eq partial_ord) → Emptied p q → (ν : Meaning C) × Started μ ν × PlainMeans q ν
+  pub plain_started : (q : Plain C cost eq) → Emptied p q → (ν : Meaning C) × Started μ ν × PlainMeans q ν
   plain_started q e = (
     emptied,
     record { fixed = record { grammar = refl; most = refl }; nodes = refl; labels = refl; rows = refl; keys = refl },
@@ -36,7 +36,7 @@ module _ {C : Type 0} {cost ord eq partial_ord : _} (p : Plain C cost ord eq par
   )
 
   -- with one more node
-  module _ (q : Plain C cost ord eq partial_ord) (fixed : Fixed p q) (x : Node) (r : Result (ℕ × Option ℕ) AddRefusal) where
+  module _ (q : Plain C cost eq) (fixed : Fixed p q) (x : Node) (r : Result (ℕ × Option ℕ) AddRefusal) where
     abbrev more : Meaning C
     more = record { grammar = μ.grammar; most = μ.most; nodes = μ.nodes ++ x ∷ []; labels = μ.labels ++ None ∷ []; rows = μ.rows; keys = μ.keys; room = μ.room }
 

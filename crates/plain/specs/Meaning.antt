@@ -15,36 +15,36 @@ use Rattle.plain.specs.Birth.{birth}
 use Rattle.plain.specs.Keeping.{no_labels}
 
 -- the grammar of a plain labeller, and the largest number of its nodes
-abbrev pub grammar_of : {C : Type 0} {cost ord eq partial_ord : _} → Plain C cost ord eq partial_ord → Lists C
+abbrev pub grammar_of : {C : Type 0} {cost eq : _} → Plain C cost eq → Lists C
 grammar_of p = grammar_lists p.grammar.now
 
-abbrev pub most_nodes : {C : Type 0} {cost ord eq partial_ord : _} → Plain C cost ord eq partial_ord → ℕ
+abbrev pub most_nodes : {C : Type 0} {cost eq : _} → Plain C cost eq → ℕ
 most_nodes p = most_of p.nodes
 
 -- the nodes of the open tree
-abbrev pub open_nodes : {C : Type 0} {cost ord eq partial_ord : _} → Plain C cost ord eq partial_ord → List Node
+abbrev pub open_nodes : {C : Type 0} {cost eq : _} → Plain C cost eq → List Node
 open_nodes p = nodes_of p.nodes
 
 -- what a birth answers, over the grammar G, for trees of up to most nodes, with so many node places and row places: a refusal exactly
 -- where there is a reason for one, and else a labeller without nodes
-abbrev pub Born : {C : Type 0} {cost ord eq partial_ord : _} → Lists C → ℕ → ℕ → ℕ → Result (Plain C cost ord eq partial_ord) BirthRefusal → Type 0
+abbrev pub Born : {C : Type 0} {cost eq : _} → Lists C → ℕ → ℕ → ℕ → Result (Plain C cost eq) BirthRefusal → Type 0
 Born G most nodes rows (Err e) = birth most (count G) nodes rows ≡ Some e
 Born G most nodes rows (Ok p) = (birth most (count G) nodes rows ≡ None) × (grammar_of p ≡ G) × (most_nodes p ≡ most) × (open_nodes p ≡ [])
 
 -- from p, the labeller q has the same grammar and the same largest number of nodes
-pub record Fixed {C : Type 0} {cost ord eq partial_ord : _} (p q : Plain C cost ord eq partial_ord) : Type 0 where
+pub record Fixed {C : Type 0} {cost eq : _} (p q : Plain C cost eq) : Type 0 where
   pub grammar : grammar_of q ≡ grammar_of p
   pub most : most_nodes q ≡ most_nodes p
 
 -- from p, the labeller q once the list of nodes became empty
-pub record Emptied {C : Type 0} {cost ord eq partial_ord : _} (p q : Plain C cost ord eq partial_ord) : Type 0 where
+pub record Emptied {C : Type 0} {cost eq : _} (p q : Plain C cost eq) : Type 0 where
   pub fixed : Fixed p q
   pub nodes : open_nodes q ≡ []
   pub newest : q.newest ≡ p.newest
   pub earlier : q.earlier ≡ p.earlier
 
 -- as a labeller: no node has a label, no row and no key is held, and there is always room
-pub record PlainMeans {C : Type 0} {cost ord eq partial_ord : _} (p : Plain C cost ord eq partial_ord) (μ : Meaning C) : Type 0 where
+pub record PlainMeans {C : Type 0} {cost eq : _} (p : Plain C cost eq) (μ : Meaning C) : Type 0 where
   pub grammar : μ.grammar ≡ grammar_of p
   pub most : μ.most ≡ most_nodes p
   pub nodes : μ.nodes ≡ open_nodes p

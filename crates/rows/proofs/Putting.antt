@@ -24,7 +24,7 @@ pub record Added {C : Type 0} (m : Model C) (w : ℕ) (rows : List (Row C)) (x :
   pub answer : r ≡ Ok (length rows)
   pub keeps : Keeps m w fs ps (rows ++ x ∷ [])
 
-module _ {C : Type 0} {cost ord eq partial_ord keyed : _} {m : Model C} (l : Laws m) (v : Rows C cost ord eq partial_ord keyed) (k : Keeps m v.width (keys_of v.entries) (keys_of v.ends) (rows_of v)) (x : Row C) where
+module _ {C : Type 0} {cost eq keyed : _} {m : Model C} (l : Laws m) (v : Rows C cost eq keyed) (k : Keeps m v.width (keys_of v.entries) (keys_of v.ends) (rows_of v)) (x : Row C) where
   abbrev pub rows : List (Row C)
   rows = rows_of v
 

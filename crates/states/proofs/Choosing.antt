@@ -23,7 +23,7 @@ pub row_rule : {C : Type 0} (m : Model C) (G : Lists C) (t : Tree) (n : ℕ) →
 row_rule {C} m G t n =
     ap (option_map (λ (e : ℕ × C). e.0)) (at_map (entry m (least_of_all m (best m G t))) refl (best m G t) n) ∙ entry_rule m (least_of_all m (best m G t)) (at (best m G t) n)
 
-pub knows_nothing : {C : Type 0} {cost ord eq partial_ord keyed : _} (m : Model C) (G : Lists C) (v : States C cost ord eq partial_ord keyed) → Sealed m G → keys_of v.transitions ≡ [] → rows_of v.rows ≡ [] → v.rows.width ≡ count G → length v.work.now ≡ count G → v.most_keys ≤ room_of v.transitions → v.most_rows ≤ rows_room v.rows → Knows m G v []
+pub knows_nothing : {C : Type 0} {cost eq keyed : _} (m : Model C) (G : Lists C) (v : States C cost eq keyed) → Sealed m G → keys_of v.transitions ≡ [] → rows_of v.rows ≡ [] → v.rows.width ≡ count G → length v.work.now ≡ count G → v.most_keys ≤ room_of v.transitions → v.most_rows ≤ rows_room v.rows → Knows m G v []
 knows_nothing m G v s a b c d e f = record {
   sealed = s;
   accepts = λ i t h. absurd (none_some t h);

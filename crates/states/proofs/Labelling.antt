@@ -51,8 +51,8 @@ accepts_more ts t a h i v e u k = elim (nth_more ts t i v e) [
 smalls_more : (ts : List Tree) (t : Tree) → ((u : Tree) → In u ts → size u ≤ 2048) → size t ≤ 2048 → (u : Tree) → In u (ts ++ t ∷ []) → size u ≤ 2048
 smalls_more ts t h s u k = elim (nth_more ts t k.0 u k.1) [ inl q ↦ h u (k.0, q) | inr q ↦ subst (λ z. size z ≤ 2048) q.1 s ]
 
-module _ {C : Type 0} {cost ord eq partial_ord keyed : _} {m : Model C} (l : Laws m) {G : Lists C} (v : States C cost ord eq partial_ord keyed) (ts : List Tree) (t : Tree) (k : Knows m G v ts) (next : Next ts t) where
-  knows_next : (u : States C cost ord eq partial_ord keyed) → Leads m G (ts ++ t ∷ []) (map lead_of (keys_of u.transitions)) → rows_of u.rows ≡ rows_held m G (ts ++ t ∷ []) → u.rows.width ≡ count G → length u.work.now ≡ count G → u.most_keys ≤ room_of u.transitions → u.most_rows ≤ rows_room u.rows → Knows m G u (ts ++ t ∷ [])
+module _ {C : Type 0} {cost eq keyed : _} {m : Model C} (l : Laws m) {G : Lists C} (v : States C cost eq keyed) (ts : List Tree) (t : Tree) (k : Knows m G v ts) (next : Next ts t) where
+  knows_next : (u : States C cost eq keyed) → Leads m G (ts ++ t ∷ []) (map lead_of (keys_of u.transitions)) → rows_of u.rows ≡ rows_held m G (ts ++ t ∷ []) → u.rows.width ≡ count G → length u.work.now ≡ count G → u.most_keys ≤ room_of u.transitions → u.most_rows ≤ rows_room u.rows → Knows m G u (ts ++ t ∷ [])
   knows_next u b c d e f g = record {
     sealed = k.sealed;
     accepts = accepts_more ts t k.accepts next.before;
@@ -65,10 +65,10 @@ module _ {C : Type 0} {cost ord eq partial_ord keyed : _} {m : Model C} (l : Law
     row_room = g;
   }
 
-  gives_none : (w : States C cost ord eq partial_ord keyed) {r : Result ℕ NoRoom} {j : ℕ} → lack m G v.most_keys v.most_rows ts t ≡ None → label m G (ts ++ t ∷ []) t ≡ j → r ≡ Ok j → Knows m G w (ts ++ t ∷ []) → Gives m G v w ts t r
+  gives_none : (w : States C cost eq keyed) {r : Result ℕ NoRoom} {j : ℕ} → lack m G v.most_keys v.most_rows ts t ≡ None → label m G (ts ++ t ∷ []) t ≡ j → r ≡ Ok j → Knows m G w (ts ++ t ∷ []) → Gives m G v w ts t r
   gives_none w {r} e q s h = subst (λ o. GivesBy o m G v w ts t r) (sym e) (s ∙ ap (λ z. Ok z) (sym q), h)
 
-  gives_some : (w : States C cost ord eq partial_ord keyed) {r : Result ℕ NoRoom} {e : NoRoom} → lack m G v.most_keys v.most_rows ts t ≡ Some e → r ≡ Err e → Knows m G w ts → SameTables v w → Gives m G v w ts t r
+  gives_some : (w : States C cost eq keyed) {r : Result ℕ NoRoom} {e : NoRoom} → lack m G v.most_keys v.most_rows ts t ≡ Some e → r ≡ Err e → Knows m G w ts → SameTables v w → Gives m G v w ts t r
   gives_some w {r} q s h k = subst (λ o. GivesBy o m G v w ts t r) (sym q) (s, h, k)
 
   -- the key is held
@@ -84,7 +84,7 @@ module _ {C : Type 0} {cost ord eq partial_ord keyed : _} {m : Model C} (l : Law
         let long : length (map lead_of (keys_of v.transitions)) ≡ length (keys_of v.transitions) = length-map (keys_of v.transitions) lead_of in
         gives_some v (step_keys l k.sealed v.most_keys v.most_rows ts t next k.accepts k.small (map lead_of (keys_of v.transitions)) k.leads (sym nowhere) (omega arith)) refl k (record { transitions = refl; rows = refl; most_keys = refl; most_rows = refl })
 
-    module _ (few : length (keys_of v.transitions) < v.most_keys) (x : Row C) (is : x ≡ row m G t) (r : Result ℕ NoRoom) (u : Rows C cost ord eq partial_ord keyed) (keeps : KeepsRow m v.rows (rows_held m G ts) x v.most_rows r u) where
+    module _ (few : length (keys_of v.transitions) < v.most_keys) (x : Row C) (is : x ≡ row m G t) (r : Result ℕ NoRoom) (u : Rows C cost eq keyed) (keeps : KeepsRow m v.rows (rows_held m G ts) x v.most_rows r u) where
       fewer : length (map lead_of (keys_of v.transitions)) < v.most_keys
       fewer = (let long : length (map lead_of (keys_of v.transitions)) ≡ length (keys_of v.transitions) = length-map (keys_of v.transitions) lead_of in omega arith)
 
@@ -116,7 +116,7 @@ module _ {C : Type 0} {cost ord eq partial_ord keyed : _} {m : Model C} (l : Law
       outcome = outcome_by (row_place m (rows_held m G ts) x) refl
 
       -- no room for the row
-      pub gives_no_rows : (e : NoRoom) → r ≡ Err e → (o : Result ℕ NoRoom) → o ≡ Err e → (w : States C cost ord eq partial_ord keyed) → w.rows ≡ u → w.transitions ≡ v.transitions → length w.work.now ≡ count G → w.most_keys ≡ v.most_keys → w.most_rows ≡ v.most_rows → Gives m G v w ts t o
+      pub gives_no_rows : (e : NoRoom) → r ≡ Err e → (o : Result ℕ NoRoom) → o ≡ Err e → (w : States C cost eq keyed) → w.rows ≡ u → w.transitions ≡ v.transitions → length w.work.now ≡ count G → w.most_keys ≡ v.most_keys → w.most_rows ≡ v.most_rows → Gives m G v w ts t o
       gives_no_rows e s o p w a b c d f = elim outcome [
         | inl q ↦ absurd (let y = sym q.1 ∙ s in let z : ◌≡◌ {A = ℕ} 0 1 = cc in omega arith)
         | inr q ↦
@@ -134,7 +134,7 @@ module _ {C : Type 0} {cost ord eq partial_ord keyed : _} {m : Model C} (l : Law
       ]
 
       -- the row has its label, and the key is added
-      pub gives_added : (i : ℕ) (n : Applied Label) → key_of n ≡ key m G ts t → r ≡ Ok i → (tr : Table Transition _) → keys_of tr ≡ put_keys transition_key (room_of v.transitions) (keys_of v.transitions) record { key = n; label = record { 0 = i } } → (w : States C cost ord eq partial_ord keyed) → w.rows ≡ u → w.transitions ≡ tr → w.rows.width ≡ count G → length w.work.now ≡ count G → w.most_keys ≤ room_of tr → w.most_rows ≤ rows_room w.rows → Gives m G v w ts t (Ok i)
+      pub gives_added : (i : ℕ) (n : Applied Label) → key_of n ≡ key m G ts t → r ≡ Ok i → (tr : Table Transition _) → keys_of tr ≡ put_keys transition_key (room_of v.transitions) (keys_of v.transitions) record { key = n; label = record { 0 = i } } → (w : States C cost eq keyed) → w.rows ≡ u → w.transitions ≡ tr → w.rows.width ≡ count G → length w.work.now ≡ count G → w.most_keys ≤ room_of tr → w.most_rows ≤ rows_room w.rows → Gives m G v w ts t (Ok i)
       gives_added i n is_key s tr after w b c d e f g = elim outcome [
         | inl q ↦ (
             let same : q.0 ≡ i = (let y = sym q.1 ∙ s in cc) in

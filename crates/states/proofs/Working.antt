@@ -41,7 +41,7 @@ abbrev pub row_answer : Result ℕ Refusal → Result ℕ NoRoom
 row_answer (Ok i) = Ok i
 row_answer (Err e) = Err NoRows
 
-module _ {C : Type 0} {cost ord eq partial_ord keyed : _} (m : Model C) (v : Rows C cost ord eq partial_ord keyed) (x : Row C) (most : ℕ) where
+module _ {C : Type 0} {cost eq keyed : _} (m : Model C) (v : Rows C cost eq keyed) (x : Row C) (most : ℕ) where
   abbrev held : List (Row C)
   held = rows_of v
 
@@ -72,7 +72,7 @@ module _ {C : Type 0} {cost ord eq partial_ord keyed : _} (m : Model C) (v : Row
     answer : put_at (row_place m held x) (length held) (room_for_row v x) ≡ Ok (length held)
     answer = ap (λ o. put_at o (length held) (room_for_row v x)) (sym n) ∙ ap (λ b. cond b (Ok (length held)) (Err Full)) (lt-ltb (length held) (room_for_row v x) (let w = whole in omega arith))
 
-    keeps_new : (i : ℕ) (u : Rows C cost ord eq partial_ord keyed) → Ok i ≡ put_at (row_place m (rows_of v) x) (length (rows_of v)) (room_for_row v x)
+    keeps_new : (i : ℕ) (u : Rows C cost eq keyed) → Ok i ≡ put_at (row_place m (rows_of v) x) (length (rows_of v)) (room_for_row v x)
         → rows_of u ≡ put (same_row m) (rows_of v) x → KeepsRow m v (rows_of v) x most (Ok i) u
     keeps_new i u a p = record {
       known = λ j q. clash j q n;
@@ -84,7 +84,7 @@ module _ {C : Type 0} {cost ord eq partial_ord keyed : _} (m : Model C) (v : Row
     keeps_refused e a = absurd (let b = a ∙ answer in let z : ◌≡◌ {A = ℕ} 0 1 = cc in omega arith)
 
     -- a row that is put is added, and is never refused
-    pub keeps_put : (r : Result ℕ Refusal) (u : Rows C cost ord eq partial_ord keyed) → r ≡ put_at (row_place m (rows_of v) x) (length (rows_of v)) (room_for_row v x)
+    pub keeps_put : (r : Result ℕ Refusal) (u : Rows C cost eq keyed) → r ≡ put_at (row_place m (rows_of v) x) (length (rows_of v)) (room_for_row v x)
         → rows_of u ≡ cond (is_ok r) (put (same_row m) (rows_of v) x) (rows_of v) → KeepsRow m v (rows_of v) x most (row_answer r) u
     keeps_put (Ok i) u a p = keeps_new i u a p
     keeps_put (Err e) u a p = keeps_refused e a

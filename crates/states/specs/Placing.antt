@@ -17,7 +17,7 @@ label_answer r = map_ok (λ (l : Label). l.0) r
 
 -- what keeping the row x among the rows held does, where so many may be: a held one is found, and a new one is added at the end or
 -- refused; where nothing is added, the memory stays as it was
-pub record KeepsRow {C : Type 0} {cost ord eq partial_ord keyed : _} (m : Model C) (v : Rows C cost ord eq partial_ord keyed) (held : List (Row C)) (x : Row C) (most : ℕ) (r : Result ℕ NoRoom) (u : Rows C cost ord eq partial_ord keyed) : Type 0 where
+pub record KeepsRow {C : Type 0} {cost eq keyed : _} (m : Model C) (v : Rows C cost eq keyed) (held : List (Row C)) (x : Row C) (most : ℕ) (r : Result ℕ NoRoom) (u : Rows C cost eq keyed) : Type 0 where
   pub known : (i : ℕ) → row_place m held x ≡ Some i → (r ≡ Ok i) × (rows_of u ≡ held)
   pub full : row_place m held x ≡ None → most ≤ length held → (r ≡ Err NoRows) × (u ≡ v)
   pub new : row_place m held x ≡ None → length held < most → (r ≡ Ok (length held)) × (rows_of u ≡ put (same_row m) held x)
