@@ -144,10 +144,10 @@ pub struct Nodes<'a> {
     places: &'a mut [NodePlace],
     most: usize,
     len: usize,
-    ghost fits: { most ≤ length places.now },
-    ghost few: { len ≤ most },
-    ghost marks: { MarksKids len places.now },
-    ghost below: { all_below len (all_kids (nodes_in len places.now)) ≡ true },
+    pub ghost fits: { most ≤ length places.now },
+    pub ghost few: { len ≤ most },
+    pub ghost marks: { MarksKids len places.now },
+    pub ghost below: { all_below len (all_kids (nodes_in len places.now)) ≡ true },
 }
 
 impl<'a> Nodes<'a> {

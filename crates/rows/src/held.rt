@@ -26,7 +26,7 @@ where
     entries: Table<'a, Entry<C>>,
     ends: Table<'a, RowEnd>,
     width: usize,
-    ghost keeps: { Keeps C.Cost.model width (keys_of entries) (keys_of ends) (rows_from width (keys_of entries) (keys_of ends)) } by { Keeps-prop C.Cost.model width (keys_of entries) (keys_of ends) (rows_from width (keys_of entries) (keys_of ends)) },
+    pub ghost keeps: { Keeps C.Cost.model width (keys_of entries) (keys_of ends) (rows_from width (keys_of entries) (keys_of ends)) } by { Keeps-prop C.Cost.model width (keys_of entries) (keys_of ends) (rows_from width (keys_of entries) (keys_of ends)) },
 }
 
 impl<'a, C: Cost> Rows<'a, C> {

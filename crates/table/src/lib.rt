@@ -134,7 +134,7 @@ fn link<K: Drop>(slots: &mut [Slot<K>], place: usize, bucket: usize, key: K)
 pub struct Table<'a, K: Key> {
     slots: &'a mut [Slot<K>],
     len: usize,
-    ghost chained: { Chained K.Key.model len slots.now (stored_keys len slots.now) } by { Chained-prop K.code K.Key.model len slots.now (stored_keys len slots.now) },
+    pub ghost chained: { Chained K.Key.model len slots.now (stored_keys len slots.now) } by { Chained-prop K.code K.Key.model len slots.now (stored_keys len slots.now) },
 }
 
 impl<'a, K: Key + Drop> Table<'a, K> {
