@@ -3,7 +3,9 @@ use Rattle.std.proofs.Common.{◌≡◌, List, [], ◌∷◌, ◌++◌, map, rev
 use mathlib.Core.List.{reverse-cons}
 use Rattle.std.specs.Option.{option_map}
 use Rattle.cost.specs.Model.{Model}
+use Rattle.covers.specs.Ranks.{Best}
 use Rattle.covers.specs.Rows.{lesser, least_in, entry, cost_entry}
+use Rattle.row.specs.Kept.{lowered}
 use Rattle.row.specs.Views.{kept_of}
 use Rattle.row.specs.declared.work.Work.{Work}
 
@@ -30,10 +32,18 @@ module _ {C : Type 0} (m : Model C) where
     abbrev pub lower_place : Option (Work C) → Option (Work C)
     lower_place o = option_map (λ (w : Work C). record { cost = m.diff w.cost f; chains = w.chains; rule = w.rule }) o
 
-    lowered_entry : (o : Option (Work C)) → cost_entry (kept_of (lower_place o)) ≡ entry m f (kept_of o)
-    lowered_entry None = refl
-    lowered_entry (Some w) = refl
+    place_lowered : (w : Option (Work C)) → kept_of (lower_place w) ≡ lowered m f (kept_of w)
+    place_lowered None = refl
+    place_lowered (Some w) = refl
 
-    pub lower_all : (ws : List (Option (Work C))) → map cost_entry (map kept_of (map lower_place ws)) ≡ map (entry m f) (map kept_of ws)
+    pub places_lowered : (ws : List (Option (Work C))) → map kept_of (map lower_place ws) ≡ map (lowered m f) (map kept_of ws)
+    places_lowered [] = refl
+    places_lowered (w ∷ ws) = λ i. place_lowered w i ∷ places_lowered ws i
+
+    lowered_entry : (o : Option (Best C)) → cost_entry (lowered m f o) ≡ entry m f o
+    lowered_entry None = refl
+    lowered_entry (Some y) = refl
+
+    pub lower_all : (xs : List (Option (Best C))) → map cost_entry (map (lowered m f) xs) ≡ map (entry m f) xs
     lower_all [] = refl
-    lower_all (w ∷ ws) = λ i. lowered_entry w i ∷ lower_all ws i
+    lower_all (x ∷ xs) = λ i. lowered_entry x i ∷ lower_all xs i

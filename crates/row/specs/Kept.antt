@@ -52,3 +52,7 @@ times f (suc k) x = times f k (f x)
 -- a round over the chain rules
 abbrev pub round_of : {C : Type 0} → Model C → List (RuleOf C) → List (Option (Best C)) → List (Option (Best C))
 round_of m ρs xs = pass m (chain_gives m) xs 1 ρs
+
+-- what stands at a place, with its cost above f
+abbrev pub lowered : {C : Type 0} → Model C → C → Option (Best C) → Option (Best C)
+lowered m f o = option_map (λ y. (m.diff y.0 f, y.1, y.2)) o

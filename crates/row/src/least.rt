@@ -1,6 +1,7 @@
 // The least of the costs, and the costs above it.
 ghost use Rattle.std.specs.Prelude.{◌≡◌, map};
-ghost use Rattle.covers.specs.Rows.{lesser, least_in, least_of_all, entry, row_of, cost_entry};
+ghost use Rattle.covers.specs.Rows.{lesser, least_in, least_of_all, row_of, cost_entry};
+ghost use Rattle.row.specs.Kept.{lowered};
 ghost use Rattle.row.specs.Views.{kept_of};
 
 use crate::work::Work;
@@ -31,7 +32,7 @@ fn least_or_zero<C: Cost>(work: &[Option<Work<C>>]) -> C
 
 // The least is taken off each cost.
 fn lower_by<C: Cost>(work: &mut [Option<Work<C>>], least: C)
-    ensures { map cost_entry (map kept_of work.new) ≡ map (entry C.Cost.model least) (map kept_of work.old) }
+    ensures { map kept_of work.new ≡ map (lowered C.Cost.model least) (map kept_of work.old) }
 {
     for place in work.iter_mut() {
         *place = place.map(|best| Work {

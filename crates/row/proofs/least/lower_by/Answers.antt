@@ -1,9 +1,8 @@
 use Rattle.std.proofs.Common.{◌≡◌, ◌<◌, map, length, ap, ◌∙◌, slice_set, rules, arith}
 use Rattle.std.proofs.lemmas.List.Edits.{map_over_more}
 use Rattle.std.proofs.lemmas.Grind.{common_steps}
-use Rattle.covers.specs.Rows.{cost_entry}
 use Rattle.row.specs.Views.{kept_of}
-use Rattle.row.proofs.Lowering.{lower_place, lower_all}
+use Rattle.row.proofs.Lowering.{lower_place, places_lowered}
 use Rattle.row.proofs.least.lower_by.Goals as goal
 
 pub loop-place-preserved : goal.loop-place-preserved
@@ -16,4 +15,4 @@ loop-place-preserved g c =
 pub returns : goal.returns
 returns g c =
     let whole : c.loop-place.work ≡ map (lower_place g.C.Cost.model c.args.least) c.args.work.now = grind (arith, common_steps, c.loop-place.invariant) in
-    ap (λ ws. map cost_entry (map kept_of ws)) whole ∙ lower_all g.C.Cost.model c.args.least c.args.work.now
+    ap (map kept_of) whole ∙ places_lowered g.C.Cost.model c.args.least c.args.work.now
