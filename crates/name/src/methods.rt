@@ -1,5 +1,8 @@
 // Making, reading and comparing names.
-ghost use Rattle.std.specs.Prelude.{◌≡◌, true};
+ghost use Rattle.std.specs.Prelude.{◌≡◌, ◌==◌, true};
+ghost use Rattle.std.specs.Ordering.{eq_of_both, on};
+ghost use Rattle.std.specs.Cmp.Rules.{comparing};
+ghost use Rattle.std.proofs.Common.{rules};
 ghost use Rattle.std.specs.Str.{bytes_eq};
 ghost use Rattle.name.specs.Names.{text, ok_text};
 ghost use Rattle.name.specs.Texts.{is_name, name_of};
@@ -48,5 +51,17 @@ impl Name {
         ensures { result ≡ bytes_eq (text self.now) (text other.now) }
     {
         self == other
+    }
+}
+
+// It answers what a derive would, but compares the texts: they are mostly shorter than the bytes kept.
+impl PartialEq for Name {
+    ghost eq = { eq_of_both (on (λ n. n.bytes) bytes_eq) (on (λ n. n.len) ◌==◌) };
+
+    ghost laws = { Prim.search (comparing, rules) };
+
+    #[tactic(auto, using(crate::proofs::Facts::equal_names))]
+    fn eq(&self, other: &Name) -> bool {
+        self.as_bytes() == other.as_bytes()
     }
 }
