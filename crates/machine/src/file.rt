@@ -74,6 +74,6 @@ pub fn read_into(drafts: Drafts, text: &[u8]) -> Result<Machine, MachineFault>
     ensures value { map_ok machine_view result ≡ machine_of text.now }
     ensures sealed { IfOk result SealedIn }
 {
-    let (header, mut lines) = opened(text)?;
-    AskedDraft::of(drafts, header).filled(&mut lines)
+    let (header, mut rest) = opened(text)?;
+    AskedDraft::of(drafts, header).filled(&mut rest)
 }
