@@ -124,8 +124,11 @@ impl<A: Cost, B: Cost> Cost for Pair<A, B> {
 
     // The second parts decide only where the first are the same.
     fn compare(&self, other: &Pair<A, B>) -> Ordering {
-        let first = self.first.compare(&other.first);
-        first.then(self.second.compare(&other.second))
+        match self.first.compare(&other.first) {
+            Ordering::Less => Ordering::Less,
+            Ordering::Equal => self.second.compare(&other.second),
+            Ordering::Greater => Ordering::Greater,
+        }
     }
 
     fn weight(&self) -> u32 {
