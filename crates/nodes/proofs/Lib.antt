@@ -2,3 +2,4 @@ pub mod Among
 pub mod Right
 mod Marking
 pub mod Pushing
+pub mod Reading

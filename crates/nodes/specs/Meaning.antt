@@ -24,6 +24,11 @@ nodes_of v = nodes_in v.len (places_of v)
 abbrev pub labels_of : Nodes → List (Option ℕ)
 labels_of v = labels_in v.len (places_of v)
 
+-- the list v means the nodes ns with the labels ls
+pub record Stands (v : Nodes) (ns : List Node) (ls : List (Option ℕ)) : Type 0 where
+  pub nodes : nodes_of v ≡ ns
+  pub labels : labels_of v ≡ ls
+
 -- u has the memory of v, the same slice with as many places, and its limit
 pub record Kept (v u : Nodes) : Type 0 where
   pub most : most_of u ≡ most_of v
